@@ -1,0 +1,16 @@
+pub mod Ages
+pub mod Alike
+pub mod Arrivals
+pub mod Bytes
+pub mod Composing
+pub mod Decomposing
+pub mod Keeping
+pub mod Lapsing
+pub mod Leaves
+pub mod Merging
+pub mod Raising
+pub mod Simplifying
+pub mod Substitution
+pub mod Times
+pub mod Unbegun
+pub mod Worked

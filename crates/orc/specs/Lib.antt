@@ -1,0 +1,16 @@
+pub mod Meaning
+pub mod Local
+pub mod Lawful
+pub mod Expressions
+pub mod Variables
+pub mod Simplified
+pub mod Calls
+pub mod Steps
+pub mod Executions
+pub mod Traces
+pub mod Agreement
+pub mod Sound
+pub mod Laws
+pub mod Files
+pub mod Reading
+pub mod Examples
