@@ -1,0 +1,12 @@
+pub mod Refusals
+pub mod States
+pub mod Tickets
+pub mod Outcomes
+pub mod Histories
+pub mod Bounds
+pub mod Facts
+pub mod Recording
+pub mod Counting
+pub mod Faithful
+pub mod Moving
+pub mod Cases
