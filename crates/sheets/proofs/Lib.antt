@@ -1,0 +1,5 @@
+pub mod Commands
+pub mod Decoded
+pub mod Encoded
+pub mod Newest
+pub mod OneOutcome
