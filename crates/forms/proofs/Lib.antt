@@ -1,0 +1,9 @@
+pub mod Counting
+pub mod Exactly
+pub mod Openings
+pub mod Lenient
+pub mod ReadBack
+pub mod Halves
+pub mod Fronts
+pub mod Written
+pub mod Expected
