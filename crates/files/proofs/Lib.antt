@@ -1,0 +1,13 @@
+pub mod Bits
+pub mod Commands
+pub mod Formwise
+pub mod Filewise
+pub mod OneOutcome
+pub mod Rules
+pub mod Decoded
+pub mod FileDecoded
+pub mod Encoded
+pub mod FileEncoded
+pub mod Recovered
+pub mod Offsets
+pub mod Verdicts

@@ -1,0 +1,6 @@
+pub mod Judgement
+pub mod Scopes
+pub mod Progress
+pub mod Contents
+pub mod Parts
+pub mod Laws
