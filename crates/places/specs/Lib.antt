@@ -1,0 +1,5 @@
+pub mod Places
+pub mod Scans
+pub mod Tickets
+pub mod Frames
+pub mod Splices

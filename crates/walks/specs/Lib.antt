@@ -1,0 +1,6 @@
+pub mod Ages
+pub mod Capacity
+pub mod Contents
+pub mod Endless
+pub mod Rooms
+pub mod Changes
