@@ -1,0 +1,4 @@
+pub mod Files
+pub mod Ranges
+pub mod Replies
+pub mod Verdicts
