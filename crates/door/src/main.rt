@@ -1,4 +1,6 @@
 // The program that a mechanic runs.
+#![tactic(auto)]
+
 use anyhow::anyhow;
 use hosts::local::Local;
 use reports::file::{file_report, file_report_with_sheet};

@@ -1,4 +1,6 @@
 // The run of a parameter file: what it holds, and the calls that move it on.
+#![tactic(auto)]
+
 pub mod calls;
 mod ended;
 mod loading;

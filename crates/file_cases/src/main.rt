@@ -1,4 +1,6 @@
 // Judges parameter files that show each rule of the format and each fault, at the edges too, and prints what comes of each.
+#![tactic(auto)]
+
 use files::check::check_file;
 use files::contents::read_file;
 use forms::ends::form_end;

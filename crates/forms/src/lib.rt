@@ -1,4 +1,6 @@
 // Forms, the bytes that expressions are written in: where one ends, its head and its parts, and walks over it.
+#![tactic(auto)]
+
 pub mod ends;
 pub mod exact;
 pub mod form;

@@ -1,4 +1,6 @@
 // Asks hosts what their sites can reply, at the edges too, and prints the answers.
+#![tactic(auto)]
+
 use hosts::host::Host;
 use hosts::local::Local;
 use hosts::pair::Pair;

@@ -1,4 +1,6 @@
 // Hosts: which sites there are, and what each can reply to a value, when.
+#![tactic(auto)]
+
 pub mod host;
 pub mod local;
 pub mod pair;

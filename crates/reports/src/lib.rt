@@ -1,4 +1,6 @@
 // What the program prints, as texts, so that it can be tried without a terminal.
+#![tactic(auto)]
+
 mod dump;
 pub mod file;
 mod ranges;

@@ -1,4 +1,6 @@
 // Reads lines of a script, good and bad, writes calls as lines, and draws pictures.
+#![tactic(auto)]
+
 use pictures::lane::{Ending, Lane, Publication};
 use pictures::picture::picture;
 use pictures::scale::scale;

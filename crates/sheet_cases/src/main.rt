@@ -1,4 +1,6 @@
 // Judges sheets that show each rule of the format and each fault, at the edges too, and prints what comes of each.
+#![tactic(auto)]
+
 use reports::sheet::sheet_report;
 use sheets::rows::check_sheet;
 use std::alloc::{AllocError, Global};

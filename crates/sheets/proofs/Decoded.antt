@@ -1,12 +1,11 @@
 -- A sheet that is accepted is the encoding of its rows, and these keep every rule. Assumes nothing.
-use Rattle.std.proofs.Common.{◌≡◌, ℕ, ◌+◌, ◌<◌, ◌≤◌, Bool, true, cond, ◌&&◌, eqb, leb, List, [], ◌∷◌, ◌++◌, map, reverse, length, take, drop, None, Ok, sym, refl, ap, ◌∙◌, append_assoc, add-zero, add_assoc, arith, lit≤}
+use Rattle.std.proofs.Common.{◌≡◌, ℕ, ◌+◌, ◌<◌, ◌≤◌, Bool, true, cond, ◌&&◌, eqb, leb, List, [], ◌∷◌, ◌++◌, reverse, length, drop, None, Ok, sym, refl, ap, ◌∙◌, append_assoc, add-zero, add_assoc, arith, lit≤}
 use mathlib.Core.List.{reverse_aux}
 use Rattle.std.proofs.lemmas.List.{drop_all, length-reverse, length_push}
 use Rattle.std.proofs.lemmas.Bool.{and_parts, and_from, le-leb}
 use Rattle.std.proofs.lemmas.Bool.Decides.{nat_tests}
 use Rattle.orc.specs.Meaning.{Window}
-use Rattle.orc.specs.Expressions.{two_bytes, four_bytes}
-use Rattle.formats.specs.Operands.{byte_at, Bytes, two_at, four_at, first_broken}
+use Rattle.formats.specs.Operands.{byte_at, Bytes, first_broken}
 use Rattle.formats.specs.Widths.{width_of}
 use Rattle.sheets.specs.Format.{SheetRow, window_bytes, windows_bytes, row_bytes, sheet_bytes, every, sound_window, sound_so_far, says_something, sound_row, sound_sheet, row_at, row_rules, window_at, window_rules, with_window, newest_done, Reads, reads_row, reads_window, Judged, goes_on, ends, SheetOutcome, by_bytes}
 use Rattle.formats.proofs.Left.{byte_by_byte, two_back, four_back}

@@ -1,4 +1,6 @@
 // New forms from old ones, written into fixed memory, and what the age of a pending call allows.
+#![tactic(auto)]
+
 pub mod ages;
 pub mod buffer;
 mod change;

@@ -7,7 +7,7 @@ use Rattle.files.proofs.check.+check_form.Goals as goal
 
 pub returns-in-err-parts : goal.returns-in-err-parts
 returns-in-err-parts g t c =
-    let p = err_from_is_err_and c.from-residual.result c.from-residual.ensures.1 in
+    let p = err_from_is_err_and c.from_residual.result c.from_residual.ensures.1 in
     rw (p.1, p.2) (record { behind = tt; outcome = bad_command c.in-err-parts.ensures.judged })
 
 pub returns-in-default : goal.returns-in-default
@@ -26,7 +26,7 @@ check-form-requires g t c =
 
 pub returns-in-err-middle : goal.returns-in-err-middle
 returns-in-err-middle g t c =
-    let p = err_from_is_err_and c.from-residual-in-err-middle.result c.from-residual-in-err-middle.ensures.1 in
+    let p = err_from_is_err_and c.from_residual-in-err-middle.result c.from_residual-in-err-middle.ensures.1 in
     let both = MatchOption-at_some _ _ _ c.in-Some.is c.in-ok-parts.ensures.judged in
     rw (p.1, p.2) (record { behind = tt; outcome = left_fault _ _ _ _ _ _ c.width.ensures both.1 c.in-err-middle.ensures.outcome })
 

@@ -12,22 +12,22 @@ returns-then-at-bytes g c = record { wide = tt; judged = none_there (omega arith
 
 pub returns-in-err-check-site-call : goal.returns-in-err-check-site-call
 returns-in-err-check-site-call g c =
-    let p = err_from_is_err_and c.from-residual.result c.from-residual.ensures.1 in
+    let p = err_from_is_err_and c.from_residual.result c.from_residual.ensures.1 in
     rw (p.1, p.2) (record { wide = tt; judged = broken_there _ _ _ _ _ (omega arith) 1 c.in-1.is _ refl c.in-err-check-site-call.ensures })
 
 pub returns-in-err-check-definition-call : goal.returns-in-err-check-definition-call
 returns-in-err-check-definition-call g c =
-    let p = err_from_is_err_and c.from-residual-in-err-check-definition-call.result c.from-residual-in-err-check-definition-call.ensures.1 in
+    let p = err_from_is_err_and c.from_residual-in-err-check-definition-call.result c.from_residual-in-err-check-definition-call.ensures.1 in
     rw (p.1, p.2) (record { wide = tt; judged = broken_there _ _ _ _ _ (omega arith) 2 c.in-2.is _ refl c.in-err-check-definition-call.ensures })
 
 pub returns-in-err-variable : goal.returns-in-err-variable
 returns-in-err-variable g c =
-    let p = err_from_is_err_and c.from-residual-in-err-variable.result c.from-residual-in-err-variable.ensures.1 in
+    let p = err_from_is_err_and c.from_residual-in-err-variable.result c.from_residual-in-err-variable.ensures.1 in
     rw (p.1, p.2) (record { wide = tt; judged = broken_there _ _ _ _ _ (omega arith) 4 c.in-4.is _ refl c.in-err-variable.ensures.rules })
 
 pub returns-in-err-variable-2 : goal.returns-in-err-variable-2
 returns-in-err-variable-2 g c =
-    let p = err_from_is_err_and c.from-residual-in-err-variable-2.result c.from-residual-in-err-variable-2.ensures.1 in
+    let p = err_from_is_err_and c.from_residual-in-err-variable-2.result c.from_residual-in-err-variable-2.ensures.1 in
     rw (p.1, p.2) (record { wide = tt; judged = broken_there _ _ _ _ _ (omega arith) 5 c.in-5.is _ refl c.in-err-variable-2.ensures.rules })
 
 pub returns-in-0 : goal.returns-in-0

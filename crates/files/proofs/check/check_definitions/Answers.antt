@@ -11,7 +11,7 @@ check-definition-requires g c = record { short = c.requires.short; within = c.lo
 
 pub returns-in-err-at : goal.returns-in-err-at
 returns-in-err-at g c =
-    let p = err_from_is_err_and c.from-residual.result c.from-residual.ensures.1 in
+    let p = err_from_is_err_and c.from_residual.result c.from_residual.ensures.1 in
     rw (p.1, p.2) (at_definition _ _ _ c.loop-i.-i c.loop-i.invariant.1 c.loop-i-test.true c.in-err-at.ensures.outcome)
 
 pub loop-i-preserved : goal.loop-i-preserved

@@ -5,7 +5,7 @@ use Rattle.files.proofs.check.check_whole.Goals as goal
 
 pub returns-in-err-end : goal.returns-in-err-end
 returns-in-err-end g c =
-    let p = err_from_is_err_and c.from-residual.result c.from-residual.ensures.1 in
+    let p = err_from_is_err_and c.from_residual.result c.from_residual.ensures.1 in
     rw (p.1, p.2) (bad_form c.in-err-end.ensures.outcome)
 
 pub returns-then-end-bytes : goal.returns-then-end-bytes

@@ -9,12 +9,12 @@ returns-then-file-gt4096 g c = too_long (omega arith)
 
 pub returns-in-err-count : goal.returns-in-err-count
 returns-in-err-count g c =
-    let p = err_from_is_err_and c.from-residual.result c.from-residual.ensures.1 in
+    let p = err_from_is_err_and c.from_residual.result c.from_residual.ensures.1 in
     rw (p.1, p.2) (bad_count (omega arith) c.in-err-count.ensures.rules)
 
 pub returns-in-err-at : goal.returns-in-err-at
 returns-in-err-at g c =
-    let p = err_from_is_err_and c.from-residual-in-err-at.result c.from-residual-in-err-at.ensures.1 in
+    let p = err_from_is_err_and c.from_residual-in-err-at.result c.from_residual-in-err-at.ensures.1 in
     let count = c.in-ok-count.ensures in
     rw (p.1, p.2) (of_file _ _ count.count.0 (omega arith) count.rules c.in-err-at.ensures)
 

@@ -10,7 +10,7 @@ loop-open-init c = starts
 pub returns-in-err-command : goal.returns-in-err-command
 returns-in-err-command c =
     let none = nowhere c.loop-open.invariant (omega arith) c.in-err-command.ensures in
-    rw c.from-residual.ensures (record { found = tt; within = tt; only = λ e form. absurd (none e form); exact = λ e rest left. absurd (none _ (shape _ e _ rest left)) })
+    rw c.from_residual.ensures (record { found = tt; within = tt; only = λ e form. absurd (none e form); exact = λ e rest left. absurd (none _ (shape _ e _ rest left)) })
 
 pub loop-open-preserved-then-is-split : goal.loop-open-preserved-then-is-split
 loop-open-preserved-then-is-split c =

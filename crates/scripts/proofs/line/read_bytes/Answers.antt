@@ -14,21 +14,21 @@ returns-then-word-eq35 c = is_comment c.in-Some.word.now (words c.in-Some.rest.n
 
 pub returns-in-err-number : goal.returns-in-err-number
 returns-in-err-number c =
-    let p = err_from_is_err_and c.from-residual.result c.from-residual.ensures.1 in
+    let p = err_from_is_err_and c.from_residual.result c.from_residual.ensures.1 in
     let rest = words c.in-Some.rest.now in
     let begins = c.in-Some.ensures.1 ∙ ap (λ (w : List ℕ). w ∷ rest) (c.in-Some-named-verb.ensures ∙ ap spelling c.in-Go.is) in
     rw (p.1, p.2) (is_faulty Verb.Go rest _ begins c.in-err-number.ensures)
 
 pub returns-in-err-ticket : goal.returns-in-err-ticket
 returns-in-err-ticket c =
-    let p = err_from_is_err_and c.from-residual-in-err-ticket.result c.from-residual-in-err-ticket.ensures.1 in
+    let p = err_from_is_err_and c.from_residual-in-err-ticket.result c.from_residual-in-err-ticket.ensures.1 in
     let rest = words c.in-Some.rest.now in
     let begins = c.in-Some.ensures.1 ∙ ap (λ (w : List ℕ). w ∷ rest) (c.in-Some-named-verb.ensures ∙ ap spelling c.in-Answer.is) in
     rw (p.1, p.2) (is_faulty Verb.Answer rest _ begins c.in-err-ticket.ensures)
 
 pub returns-in-err-ticks : goal.returns-in-err-ticks
 returns-in-err-ticks c =
-    let p = err_from_is_err_and c.from-residual-in-err-ticks.result c.from-residual-in-err-ticks.ensures.1 in
+    let p = err_from_is_err_and c.from_residual-in-err-ticks.result c.from_residual-in-err-ticks.ensures.1 in
     let rest = words c.in-Some.rest.now in
     let begins = c.in-Some.ensures.1 ∙ ap (λ (w : List ℕ). w ∷ rest) (c.in-Some-named-verb.ensures ∙ ap spelling c.in-Wait.is) in
     rw (p.1, p.2) (is_faulty Verb.Wait rest _ begins c.in-err-ticks.ensures)

@@ -9,25 +9,25 @@ use Rattle.sheets.proofs.read.read_draft.Goals as goal
 pub returns-then-bytes-gt-LONGEST : goal.returns-then-bytes-gt-LONGEST
 returns-then-bytes-gt-LONGEST c = too_long (omega arith)
 
-pub returns-in-err-read-command : goal.returns-in-err-read-command
-returns-in-err-read-command c =
-    let p = err_from_is_err_and c.from-residual.result c.from-residual.ensures.1 in
+pub returns-in_err-read_command : goal.returns-in_err-read_command
+returns-in_err-read_command c =
+    let p = err_from_is_err_and c.from_residual.result c.from_residual.ensures.1 in
     let inv = c.loop-at.invariant in
-    rw (p.1, p.2) (by_bytes inv.0 (inv.2 _ (stops c.loop-at-test.true c.in-err-read-command.ensures)))
+    rw (p.1, p.2) (by_bytes inv.0 (inv.2 _ (stops c.loop-at-test.true c.in_err-read_command.ensures)))
 
 pub loop-at-preserved : goal.loop-at-preserved
 loop-at-preserved c =
     let inv = c.loop-at.invariant in
-    let read = c.in-ok-read-command.ensures in (
+    let read = c.in_ok-read_command.ensures in (
       inv.0,
       λ _. omega (arith, wide read, c.width-at.ensures),
       λ o rest. inv.2 o (goes_on c.loop-at-test.true read (subst (λ (w : ℕ). Judged c.args.bytes.now (c.loop-at.at + w) (newest_first c.read_command.new.draft) o) c.width-at.ensures rest)),
     )
 
-pub returns-then-not-newest-done : goal.returns-then-not-newest-done
-returns-then-not-newest-done c =
+pub returns-then-not-newest_done : goal.returns-then-not-newest_done
+returns-then-not-newest_done c =
     let inv = c.loop-at.invariant in
-    let open_row = sym c.newest_done.ensures ∙ c.if-not-newest-done.true in
+    let open_row = sym c.newest_done.ensures ∙ c.if-not-newest_done.true in
     let far = inv.1 open_row in
     by_bytes inv.0 (inv.2 _ (ends_empty c.loop-at-test.false open_row (omega arith)))
 
@@ -35,6 +35,6 @@ pub returns : goal.returns
 unfolding newest_first
 returns c =
     let inv = c.loop-at.invariant in
-    let done = sym c.newest_done.ensures ∙ c.if-not-newest-done.false in
+    let done = sym c.newest_done.ensures ∙ c.if-not-newest_done.false in
     subst (λ (rs : List SheetRow). SheetOutcome c.args.bytes.now (Ok rs)) (reverse-reverse (rows_of c.loop-at.draft))
     (by_bytes inv.0 (inv.2 _ (ends c.loop-at-test.false done)))

@@ -10,21 +10,21 @@ use Rattle.sheets.proofs.read.read_window_command.Goals as goal
 counted : (r : Row) → length (row_of r).windows ≡ r.count
 counted r = length-map (take r.count r.windows) window_of ∙ length-take-le r.count r.windows (omega arith)
 
-pub returns-in-default : goal.returns-in-default
-returns-in-default c = window_first c.requires.command c.in-default.ensures.row
+pub returns-in_default : goal.returns-in_default
+returns-in_default c = window_first c.requires.command c.in_default.ensures.row
 
-pub returns-then-row-ge-MOST-WINDOWS : goal.returns-then-row-ge-MOST-WINDOWS
-returns-then-row-ge-MOST-WINDOWS c = let held = c.in-Some.ensures in window_5 _ held.row.0 c.requires.command held.row.1 (omega (arith, counted c.in-Some.row))
+pub returns-then-row-ge-MOST_WINDOWS : goal.returns-then-row-ge-MOST_WINDOWS
+returns-then-row-ge-MOST_WINDOWS c = let held = c.in-Some.ensures in window_5 _ held.row.0 c.requires.command held.row.1 (omega (arith, counted c.in-Some.row))
 
-pub returns-in-err-window : goal.returns-in-err-window
-returns-in-err-window c =
+pub returns-in_err-window : goal.returns-in_err-window
+returns-in_err-window c =
     let held = c.in-Some.ensures in
-    let p = err_from_is_err_and c.from-residual.result c.from-residual.ensures.1 in
-    rw (p.1, p.2) (bad_window _ held.row.0 c.requires.command held.row.1 (omega (arith, counted c.in-Some.row)) c.in-err-window.ensures)
+    let p = err_from_is_err_and c.from_residual.result c.from_residual.ensures.1 in
+    rw (p.1, p.2) (bad_window _ held.row.0 c.requires.command held.row.1 (omega (arith, counted c.in-Some.row)) c.in_err-window.ensures)
 
 pub returns : goal.returns
 returns c =
     let held = c.in-Some.ensures in
-    let window = c.in-ok-window.ensures in
+    let window = c.in_ok-window.ensures in
     reads_window (row_of c.in-Some.row) held.row.0 c.requires.command held.row.1 (omega (arith, counted c.in-Some.row)) window.0
-    (c.replace-newest.ensures _ held.row.0 held.row.1 ∙ ap (λ r. r ∷ held.row.0) (c.with_window.ensures ∙ ap (with_window (row_of c.in-Some.row)) window.1))
+    (c.replace_newest.ensures _ held.row.0 held.row.1 ∙ ap (λ r. r ∷ held.row.0) (c.with_window.ensures ∙ ap (with_window (row_of c.in-Some.row)) window.1))

@@ -9,7 +9,7 @@ use Rattle.steps.proofs.calls.call_site.Goals as goal
 pub returns-in-err-value : goal.returns-in-err-value
 returns-in-err-value c =
     let waits = call_waits (site_call c.args.site) c.in-err-value.ensures (λ h. h) c.requires.0 in
-    rw c.from-residual.ensures (λ ds a bs' m. absurd (waits m.is_due))
+    rw c.from_residual.ensures (λ ds a bs' m. absurd (waits m.is_due))
 
 pub call-at-requires : goal.call-at-requires
 call-at-requires c =
@@ -29,7 +29,7 @@ returns-in-err-form c =
     let is = ap (site_call c.args.site) (sym c.in-ok-value.ensures) ∙ c.requires.0 in
     let long = unbuilt c.with-bytes.result _ c.in-err-form.ensures.value c.with-bytes.ensures in
     let same = spliced_same bs c.call-at.ensures.0 c.call-at.ensures.1 c.pending-form-new.ensures in
-    rw c.from-residual-in-err-form.ensures (λ ds a bs' m. subst (λ l. capacity < length l) (same ∙ sym (site_becomes ds c.args.clock c.args.ticket bs c.args.place c.args.site c.in-ok-value.value is m)) long)
+    rw c.from_residual-in-err-form.ensures (λ ds a bs' m. subst (λ l. capacity < length l) (same ∙ sym (site_becomes ds c.args.clock c.args.ticket bs c.args.place c.args.site c.in-ok-value.value is m)) long)
 
 pub returns : goal.returns
 returns c ds =

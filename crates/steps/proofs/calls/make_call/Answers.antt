@@ -6,7 +6,7 @@ use Rattle.steps.proofs.calls.make_call.Goals as goal
 pub returns-in-err-form-at : goal.returns-in-err-form-at
 returns-in-err-form-at c =
     let past = c.in-err-form-at.ensures in
-    rw c.from-residual.ensures (λ a bs' m. let five = five_there c.args.form.bytes.now c.args.place m.is_due in absurd (omega arith))
+    rw c.from_residual.ensures (λ a bs' m. let five = five_there c.args.form.bytes.now c.args.place m.is_due in absurd (omega arith))
 
 pub returns-in-default : goal.returns-in-default
 returns-in-default c =

@@ -12,7 +12,7 @@ use Rattle.steps.proofs.calls.unfold.Goals as goal
 pub returns-in-err-value : goal.returns-in-err-value
 returns-in-err-value c =
     let waits = call_waits (definition_call c.args.number) c.in-err-value.ensures (λ h. h) c.requires.0 in
-    rw c.from-residual.ensures (λ t k a bs' m. absurd (waits m.is_due))
+    rw c.from_residual.ensures (λ t k a bs' m. absurd (waits m.is_due))
 
 pub call-at-requires : goal.call-at-requires
 call-at-requires c =
@@ -32,7 +32,7 @@ returns-in-err-formal c =
     let ds = (file_of c.args.contents.bytes.now).definitions in
     let is = ap (definition_call c.args.number) (sym c.in-ok-value.ensures) ∙ c.requires.0 in
     let none = c.in-err-formal.ensures.found ∙ ap (entry ds) c.from.ensures in
-    rw c.from-residual-in-err-formal.ensures (λ t k a bs' m. absurd (definition_missing ds t k bs c.args.place c.args.number c.in-ok-value.value is none m))
+    rw c.from_residual-in-err-formal.ensures (λ t k a bs' m. absurd (definition_missing ds t k bs c.args.place c.args.number c.in-ok-value.value is none m))
 
 pub returns-in-err-form : goal.returns-in-err-form
 returns-in-err-form c =
@@ -44,7 +44,7 @@ returns-in-err-form c =
     let long = unbuilt c.with-form.result _ c.in-err-form.ensures.value c.with-form.ensures in
     let body = bytes (substitute c.in-ok-value.value d.formal d.body) in
     let same = spliced_same bs {new = body} {new' = body} c.call-at.ensures.0 c.call-at.ensures.1 refl in
-    rw c.from-residual-in-err-form.ensures (λ t k a bs' m. subst (λ l. capacity < length l) (same ∙ sym (definition_becomes ds t k bs c.args.place c.args.number c.in-ok-value.value is d found m)) long)
+    rw c.from_residual-in-err-form.ensures (λ t k a bs' m. subst (λ l. capacity < length l) (same ∙ sym (definition_becomes ds t k bs c.args.place c.args.number c.in-ok-value.value is d found m)) long)
 
 pub returns : goal.returns
 returns c t k =

@@ -8,7 +8,7 @@ use Rattle.steps.proofs.replies.bind.Goals as goal
 pub returns-in-err-form : goal.returns-in-err-form
 returns-in-err-form c =
     let long = unbuilt c.with-form.result _ c.in-err-form.ensures.value c.with-form.ensures in
-    rw c.from-residual.ensures (λ form there. unbound c.args.form.bytes.now c.args.call.at c.args.value c.args.pruning there long)
+    rw c.from_residual.ensures (λ form there. unbound c.args.form.bytes.now c.args.call.at c.args.value c.args.pruning there long)
 
 pub overflow-sub-pruned : goal.overflow-sub-pruned
 overflow-sub-pruned c =

@@ -6,7 +6,7 @@ use Rattle.steps.proofs.Answering.{outside_the_frame, no_frame}
 use Rattle.steps.proofs.replies.hand_over.Goals as goal
 
 pub returns-in-err-call : goal.returns-in-err-call
-returns-in-err-call c = rw c.from-residual.ensures (λ _. outside_the_frame c.args.form.bytes.now c.args.place c.args.value c.args.frame c.in-err-call.ensures)
+returns-in-err-call c = rw c.from_residual.ensures (λ _. outside_the_frame c.args.form.bytes.now c.args.place c.args.value c.args.frame c.in-err-call.ensures)
 
 pub returns-in-Sequential : goal.returns-in-Sequential
 returns-in-Sequential c _ =

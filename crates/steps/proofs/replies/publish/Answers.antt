@@ -10,7 +10,7 @@ pub returns-in-err-call : goal.returns-in-err-call
 returns-in-err-call c =
     let bs = c.args.form.bytes.now in
     let none = rw c.as-bytes.ensures at c.in-err-call.ensures in
-    rw c.from-residual.ensures (outside_the_bytes bs c.args.place c.args.value none)
+    rw c.from_residual.ensures (outside_the_bytes bs c.args.place c.args.value none)
 
 pub returns-in-err-form : goal.returns-in-err-form
 returns-in-err-form c =
@@ -18,7 +18,7 @@ returns-in-err-form c =
     let call = c.in-ok-call.ensures in
     let long = unbuilt c.with-bytes.result _ c.in-err-form.ensures.value c.with-bytes.ensures in
     let same = spliced_same bs {new = 0 ∷ []} {new' = 0 ∷ []} call.0 call.1 refl in
-    rw c.from-residual-in-err-form.ensures (unpublished bs c.args.place c.args.value (subst (λ l. capacity < length l) same long))
+    rw c.from_residual-in-err-form.ensures (unpublished bs c.args.place c.args.value (subst (λ l. capacity < length l) same long))
 
 pub returns : goal.returns
 returns c =

@@ -15,7 +15,7 @@ returns-in-err-form c =
     let s = c.args.sequential in
     let long = unbuilt c.with-copy.result _ c.in-err-form.ensures.value c.with-copy.ensures in
     let same = copied_same bs s (bytes (substitute c.args.value c.args.variable (expression c.args.right))) c.args.call.at c.requires.1 in
-    rw c.from-residual.ensures (λ f there. unspawned bs c.args.call.at c.args.value s there (subst (λ l. capacity < length l) same long))
+    rw c.from_residual.ensures (λ f there. unspawned bs c.args.call.at c.args.value s there (subst (λ l. capacity < length l) same long))
 
 pub returns : goal.returns
 returns c f there =

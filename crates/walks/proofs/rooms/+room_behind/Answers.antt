@@ -8,14 +8,14 @@ behind_last None room left part whole all h = omega arith
 behind_last (Some n) room left part whole all h = omega arith
 
 pub returns-in-err-room : goal.returns-in-err-room
-returns-in-err-room t c = rw c.from-residual.ensures (omega (arith, c.in-err-room.ensures))
+returns-in-err-room t c = rw c.from_residual.ensures (omega (arith, c.in-err-room.ensures))
 
 pub returns-in-default : goal.returns-in-default
 returns-in-default t c = omega (arith, c.in-ok-room.ensures, ap parts_size c.in-default.ensures)
 
 pub returns-in-err-room-2 : goal.returns-in-err-room-2
 returns-in-err-room-2 t c =
-    rw c.from-residual-in-err-room-2.ensures (omega (arith, c.in-ok-room.ensures, ap parts_size c.in-Some.ensures, c.in-err-room-2.ensures))
+    rw c.from_residual-in-err-room-2.ensures (omega (arith, c.in-ok-room.ensures, ap parts_size c.in-Some.ensures, c.in-err-room-2.ensures))
 
 pub returns : goal.returns
 returns t c =

@@ -29,8 +29,8 @@ returns-in-err-reply g c =
     let m = g.H.Host.meaning c.args.self.now.host in
     let p = c.args.self.now.plain in
     let call = Answer c.args.ticket c.args.value in
-    let r = c.from-residual.result in
-    let e = err_from_is_err_and r c.from-residual.ensures.1 in
+    let r = c.from_residual.result in
+    let e = err_from_is_err_and r c.from_residual.ensures.1 in
     let o = refused_outcome m p call r e.0 _ e.1 e.2 c.in-err-reply.ensures in
     record { outcome = o; made = every_transition m p call r _ o; refused = refused_keeps m p call r e.0 _ e.1 e.2; host = refl }
 
@@ -43,8 +43,8 @@ returns-in-err-check-size g c =
     let p = c.args.self.now.plain in
     let call = Answer c.args.ticket c.args.value in
     let reply = c.in-ok-reply.reply in
-    let r = c.from-residual-in-err-check-size.result in
-    let e = err_from_is_err_and r c.from-residual-in-err-check-size.ensures.1 in
+    let r = c.from_residual-in-err-check-size.result in
+    let e = err_from_is_err_and r c.from_residual-in-err-check-size.ensures.1 in
     let large = c.in-err-check-size.ensures in
     let gone = withdrawn_with c.args.ticket (content p.form) reply.pruned in
     let refuses = outgrown m p call (act_of reply.act) gone (content reply.form) (content c.simplify-form.result) c.in-ok-reply.ensures.move c.simplify-form.ensures _ large.0 large.1 in

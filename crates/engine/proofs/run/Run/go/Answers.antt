@@ -13,8 +13,8 @@ pub returns-in-err-step : goal.returns-in-err-step
 returns-in-err-step g c =
     let m = g.H.Host.meaning c.args.self.now.host in
     let p = c.args.self.now.plain in
-    let r = c.from-residual.result in
-    let e = err_from_is_err_and r c.from-residual.ensures.1 in
+    let r = c.from_residual.result in
+    let e = err_from_is_err_and r c.from_residual.ensures.1 in
     let o = refused_outcome m p (Go c.args.n) r e.0 _ e.1 e.2 (c.in-err-step.ensures m) in
     record { outcome = o; made = every_transition m p (Go c.args.n) r _ o; refused = refused_keeps m p (Go c.args.n) r e.0 _ e.1 e.2; host = refl }
 
@@ -26,8 +26,8 @@ returns-in-err-check-size g c =
     let m = g.H.Host.meaning c.args.self.now.host in
     let p = c.args.self.now.plain in
     let step = c.in-ok-step.step in
-    let r = c.from-residual-in-err-check-size.result in
-    let e = err_from_is_err_and r c.from-residual-in-err-check-size.ensures.1 in
+    let r = c.from_residual-in-err-check-size.result in
+    let e = err_from_is_err_and r c.from_residual-in-err-check-size.ensures.1 in
     let large = c.in-err-check-size.ensures in
     let refuses = outgrown m p (Go c.args.n) (act_of step.act) [] (content step.form) (content c.settle-form.result) (c.in-ok-step.ensures m) c.settle-form.ensures _ large.0 large.1 in
     let o = refused_outcome m p (Go c.args.n) r e.0 _ e.1 e.2 refuses in

@@ -10,12 +10,12 @@ pub returns-in-err-check-wait : goal.returns-in-err-check-wait
 returns-in-err-check-wait g c =
     let m = g.H.Host.meaning c.args.self.now.host in
     let p = c.args.self.now.plain in
-    let e = err_from_is_err_and c.from-residual.result c.from-residual.ensures.1 in
-    let o = refused_outcome m p (Wait c.args.ticks) c.from-residual.result e.0 _ e.1 e.2 c.in-err-check-wait.ensures in
+    let e = err_from_is_err_and c.from_residual.result c.from_residual.ensures.1 in
+    let o = refused_outcome m p (Wait c.args.ticks) c.from_residual.result e.0 _ e.1 e.2 c.in-err-check-wait.ensures in
     record {
       outcome = o;
-      passed = every_passage m p c.args.ticks c.from-residual.result _ o;
-      refused = refused_keeps m p (Wait c.args.ticks) c.from-residual.result e.0 _ e.1 e.2;
+      passed = every_passage m p c.args.ticks c.from_residual.result _ o;
+      refused = refused_keeps m p (Wait c.args.ticks) c.from_residual.result e.0 _ e.1 e.2;
       host = refl;
     }
 
