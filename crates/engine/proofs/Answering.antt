@@ -14,7 +14,7 @@ use Rattle.runs.specs.Outcomes.{Response, Takes, largest_form, settled, stepped,
 use Rattle.runs.specs.Recording.{MeetsLimit}
 use Rattle.runs.specs.Moving.{OneOutcome}
 use Rattle.runs.proofs.Making.{made_or_limited, can_be_waited, takes_leaf}
-use Rattle.runs.proofs.Single.{one_outcome as one-outcome-of}
+use Rattle.runs.proofs.Single.{one_outcome as one_outcome_of}
 use Rattle.engine.specs.Moves.{Move, MayBeMade}
 use Rattle.engine.specs.Making.{Limited, EveryTransitionIsMade, EveryPassageIsWaited}
 use Rattle.engine.proofs.Given.{keeps}
@@ -31,7 +31,7 @@ module _ (m : Meaning) (p : Plain) (c : Call) (r : Response) (f g : Refusal) (is
 -- each transition that the call names is made, since the call has only one outcome
 pub every_transition : (m : Meaning) (p : Plain) (c : Call) (r : Response) (s' : State) → Outcome m (state_of p) c r s' → EveryTransitionIsMade m (state_of p) c r s'
 every_transition m p c r s' o loaded l a gone e named st =
-    let one = one-outcome-of m (state_of p) (keeps p) c in
+    let one = one_outcome_of m (state_of p) (keeps p) c in
     let mine = one.only o in
     by one mine (made_or_limited loaded (subst (λ c. Takes m (state_of p) c a gone e) named (takes_leaf l st)))
   where
@@ -54,7 +54,7 @@ may_be_made m p c a gone bs bs' move settles small = record { move = move; settl
 -- time that can pass is waited, likewise
 pub every_passage : (m : Meaning) (p : Plain) (d : ℕ) (r : Response) (s' : State) → Outcome m (state_of p) (Wait d) r s' → EveryPassageIsWaited m (state_of p) d r s'
 every_passage m p d r s' o loaded pass =
-    let one = one-outcome-of m (state_of p) (keeps p) (Wait d) in
+    let one = one_outcome_of m (state_of p) (keeps p) (Wait d) in
     let mine = one.only o in
     elim (can_be_waited loaded d pass) [
       | inl done ↦ let its = one.only done in inl (mine.0 ∙ sym its.0, mine.1 ∙ sym its.1)

@@ -1,6 +1,6 @@
 -- What a run holds after a transition. Assumes nothing.
 use Rattle.std.proofs.Common.{◌≡◌, ℕ, suc, ◌+◌, ◌^◌, ◌<◌, ◌≤◌, Bool, true, not, eqb, leb, List, [], ◌∷◌, ◌++◌, length, Ok, count_by, filter, sym, refl, ap, ◌∙◌, subst, add-zero, arith}
-use Rattle.std.specs.List.{ContainsAt as Has, AllByRecursion as All}
+use Rattle.std.specs.List.{ContainsAt as Has, AllByRecursion}
 use Rattle.std.proofs.ByRecursion.{All-weaker, all-has, all_kept_by}
 use Rattle.std.proofs.lemmas.List.Sums.{count_by-le-length}
 use Rattle.std.proofs.lemmas.Bool.{leb-true, eq-eqb, not_from_true}
@@ -46,16 +46,16 @@ leaf (by_go {n} st) = (due n, st)
 leaf (by_answer {k} {v} st) = (reply k v, st)
 
 -- sites in range, of what an act begins and of what stands
-act_sited : (t k : ℕ) (a : Act) → RangedAct a → All (λ p. p.site < 32) (made t k a)
+act_sited : (t k : ℕ) (a : Act) → RangedAct a → AllByRecursion (λ p. p.site < 32) (made t k a)
 act_sited t k (called s v) r = (omega (arith, leb-true s 31 r.0), tt)
 act_sited t k inner r = tt
 act_sited t k (out v) r = tt
 
-pub standing_sited : {ds : _} {n t : ℕ} (e : Expression) → KeptExpression ds n t e → All (λ p. p.site < 32) (pending_calls e)
+pub standing_sited : {ds : _} {n t : ℕ} (e : Expression) → KeptExpression ds n t e → AllByRecursion (λ p. p.site < 32) (pending_calls e)
 standing_sited e k = All-weaker _ _ (λ p q. omega (arith, leb-true p.site 31 q.0)) (pending_calls e) (pending_pass _ _ _ e k.ranged)
 
 -- and of what a transition withdraws that begins nothing
-ended_sited : {m : Meaning} {s : State} {l : Leaf} {a : Act} {gone : List Pending} {e : Expression} → Keeps s → Lawful m → Step (world_of m s) s.clock (suc s.issued) s.expression l a gone e → ((t k : ℕ) → made t k a ≡ []) → All (λ q. q.site < 32) gone
+ended_sited : {m : Meaning} {s : State} {l : Leaf} {a : Act} {gone : List Pending} {e : Expression} → Keeps s → Lawful m → Step (world_of m s) s.clock (suc s.issued) s.expression l a gone e → ((t k : ℕ) → made t k a ≡ []) → AllByRecursion (λ q. q.site < 32) gone
 ended_sited {m} {s} {l} {a} {gone} {e} k laws st none =
     let far : Pending → Bool = λ q. not (leb q.site 31) in
     let x = k.expression_kept in
@@ -163,7 +163,7 @@ module _ (m : Meaning) (laws : Lawful m) (p : Plain) (k v : ℕ) (a : Act) (gone
         enough = λ site. omega (arith, few_ended m laws p (Answer k v) a gone bs bs' may site, ap (count_by (of_site site)) one_answered);
       }
 
-  gone_sited : All (λ q. q.site < 32) gone
+  gone_sited : AllByRecursion (λ q. q.site < 32) gone
   gone_sited = ended_sited (keeps p) laws (leaf may.move.takes).1 (λ t j. none_called t j)
 
   module _ (answered : Table) (first : CountsIn p.table answered (by_cause Answered (call ∷ []))) where

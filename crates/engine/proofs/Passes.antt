@@ -1,6 +1,6 @@
 -- How a wait is judged. Assumes nothing.
 use Rattle.std.proofs.Common.{◌≡◌, ℕ, ◌+◌, ◌<◌, ◌≤◌, Bool, true, false, not, ◌⊎◌, List, sym, refl, ap, ◌∙◌, subst, inl, inr, ⊎_elim, add-zero, arith}
-use Rattle.std.specs.List.{AllByRecursion as All}
+use Rattle.std.specs.List.{AllByRecursion}
 use Rattle.std.proofs.ByRecursion.{All-weaker}
 use Rattle.orc.specs.Meaning.{Meaning, can_stand}
 use Rattle.orc.specs.Calls.{due_count, Pending, pending_calls, handle_at}
@@ -38,11 +38,11 @@ module _ (m : Meaning) (p : Plain) (d : ℕ) (loaded : p.loaded ≡ true) (bs : 
         let then = subst (λ t. First (late m t) (pending_calls (state_of p).expression) q) now there in
         subst (λ j. Refuses m (state_of p) (Wait d) (Overdue j)) is (is_overdue loaded idle then)
 
-    module _ (none : All (λ q. late m tick q ≡ false) (pending_calls (expression_of bs))) where
+    module _ (none : AllByRecursion (λ q. late m tick q ≡ false) (pending_calls (expression_of bs))) where
       pub can_go_by : Pass (world_of m (state_of p)) p.clock (p.clock + d) (state_of p).expression
       can_go_by =
-          let there = subst (λ l. All (λ q. late m tick q ≡ false) (pending_calls (expression_of l))) same none in
-          let then = subst (λ t. All (λ q. late m t q ≡ false) (pending_calls (state_of p).expression)) now there in
+          let there = subst (λ l. AllByRecursion (λ q. late m tick q ≡ false) (pending_calls (expression_of l))) same none in
+          let then = subst (λ t. AllByRecursion (λ q. late m t q ≡ false) (pending_calls (state_of p).expression)) now there in
           pass_when (world_of m (state_of p)) p.clock (p.clock + d) (state_of p).expression (omega arith)
           (⊎_elim (λ z. inl (omega arith)) inr idle)
           (All-weaker _ _ (λ q h. not_late (can_stand (handle_at m q) q.since (p.clock + d)) h) (pending_calls (state_of p).expression) then)

@@ -1,6 +1,6 @@
 -- What the totals of the code stand for, and how tickets are counted in. Assumes nothing.
 use Rattle.std.specs.Prelude.{◌≡◌, ℕ, ◌+◌, ◌<◌, ◌≤◌, List, [], count_by, slice_index_or}
-use Rattle.std.specs.List.{AllByRecursion as All}
+use Rattle.std.specs.List.{AllByRecursion}
 use Rattle.orc.specs.Calls.{Pending}
 use Rattle.runs.specs.States.{Totals}
 use Rattle.runs.specs.Tickets.{of_site, Tickets, counted, added}
@@ -40,5 +40,5 @@ CountsIn before after t = (site : ℕ) → totals_at after site ≡ added (total
 
 -- Each of the tickets has a site that the table has, and there is room to count them in.
 pub record Room (t : Table) (cause : Cause) (ps : List Pending) : Type 0 where
-  pub sited : All (λ p. p.site < 32) ps
+  pub sited : AllByRecursion (λ p. p.site < 32) ps
   pub enough : (site : ℕ) → amount cause (totals_at t site) + count_by (of_site site) ps ≤ 65535

@@ -1,7 +1,7 @@
 // What can be read of a run, with no effect on it.
 ghost use Rattle.std.specs.Prelude.{◌≡◌, ◌<◌, ◌≤◌, length, MatchOption};
 ghost use Rattle.std.specs.Option.{option_map};
-ghost use Rattle.orc.specs.Expressions.{bytes as form-bytes, size, entry};
+ghost use Rattle.orc.specs.Expressions.{bytes as form_bytes, size, entry};
 ghost use Rattle.orc.specs.Calls.{due_count};
 ghost use Rattle.events.specs.Events.{entry_of};
 ghost use Rattle.engine.specs.Stands.{state_of};
@@ -30,7 +30,7 @@ impl<H> Run<H> {
 
     // The bytes of the standing form.
     pub fn form(&self) -> &[u8]
-        ensures { result.now ≡ form-bytes (state_of self.now.plain).expression }
+        ensures { result.now ≡ form_bytes (state_of self.now.plain).expression }
     {
         self.plain.form.as_slice()
     }
@@ -44,7 +44,7 @@ impl<H> Run<H> {
 
     // The byte of the standing form at an offset, if there is one.
     pub fn form_byte(&self, offset: usize) -> Option<u8>
-        ensures { result ≡ entry (form-bytes (state_of self.now.plain).expression) offset }
+        ensures { result ≡ entry (form_bytes (state_of self.now.plain).expression) offset }
     {
         let form = self.form();
         if offset >= form.len() {

@@ -1,6 +1,6 @@
 // What an accepted call leaves: forms with what lapses ended, and simplified, and no larger than a run can hold.
 ghost use Rattle.std.specs.Prelude.{◌≡◌, ◌<◌, ◌≤◌, length, MatchResult};
-ghost use Rattle.orc.specs.Expressions.{bytes as form-bytes};
+ghost use Rattle.orc.specs.Expressions.{bytes as form_bytes};
 ghost use Rattle.orc.specs.Simplified.{simplified};
 ghost use Rattle.orc.specs.Calls.{lapsed};
 ghost use Rattle.forms.specs.Reading.{expression_of};
@@ -20,7 +20,7 @@ const LARGEST_FORM: usize = 4096;
 // A form with the pending calls ended that no window reaches at a tick, and simplified.
 pub(crate) fn settle<H: Host>(host: &H, left: &Buffer, tick: u32) -> Buffer
     requires { IsForm (content left.now) }
-    ensures { content result ≡ form-bytes (simplified (lapsed (H.Host.meaning host.now) tick (expression_of (content left.now)))) }
+    ensures { content result ≡ form_bytes (simplified (lapsed (H.Host.meaning host.now) tick (expression_of (content left.now)))) }
 {
     let mut form = Buffer::new();
     let Ok(()) = settle_into(host, Form::new(left.as_slice()), u64::from(tick), &mut form) else {
@@ -32,7 +32,7 @@ pub(crate) fn settle<H: Host>(host: &H, left: &Buffer, tick: u32) -> Buffer
 // A form simplified.
 pub(crate) fn simplify(left: &Buffer) -> Buffer
     requires { IsForm (content left.now) }
-    ensures { content result ≡ form-bytes (simplified (expression_of (content left.now))) }
+    ensures { content result ≡ form_bytes (simplified (expression_of (content left.now))) }
 {
     let mut form = Buffer::new();
     let Ok(()) = simplify_into(Form::new(left.as_slice()), &mut form) else {

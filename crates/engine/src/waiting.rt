@@ -1,6 +1,6 @@
 // Whether time can pass.
 ghost use Rattle.std.specs.Prelude.{◌≡◌, false, MatchOption, MatchResult};
-ghost use Rattle.std.specs.List.{AllByRecursion as All};
+ghost use Rattle.std.specs.List.{AllByRecursion};
 ghost use Rattle.orc.specs.Calls.{Pending, pending_calls};
 ghost use Rattle.forms.specs.Heads.{expression, IsForm};
 ghost use Rattle.runs.specs.declared.call.Call.TheVariants.{Wait};
@@ -23,7 +23,7 @@ const LAST_CLOCK: u64 = 4294967294;
 fn first_late<H: Host>(host: &H, form: Form, tick: u64) -> Option<u32>
     requires { IsForm form.bytes.now }
     ensures { MatchOption result
-        (All (λ p. late (H.Host.meaning host.now) tick p ≡ false) (pending_calls (expression form.entry)))
+        (AllByRecursion (λ p. late (H.Host.meaning host.now) tick p ≡ false) (pending_calls (expression form.entry)))
         (λ k. (p : Pending) × First (late (H.Host.meaning host.now) tick) (pending_calls (expression form.entry)) p × (p.ticket ≡ k)) }
 {
     let mut at = 0;

@@ -1,6 +1,6 @@
 -- The command at an offset, by its byte. Assumes nothing.
 use Rattle.std.proofs.Common.{◌≡◌, ℕ, ◌<◌, cond, eqb, List, [], ◌∷◌, length, Some, None, refl, ap, ◌∙◌, arith}
-use Rattle.std.specs.List.{AllByRecursion as All}
+use Rattle.std.specs.List.{AllByRecursion}
 use Rattle.std.proofs.lemmas.Bool.{cond-false, ne_eqb}
 use Rattle.orc.specs.Meaning.{Meaning}
 use Rattle.formats.specs.declared.fault.Fault.{Fault}
@@ -10,7 +10,7 @@ use Rattle.formats.specs.Widths.{width_of}
 use Rattle.files.specs.Judgement.{Scope, Begun, Command, commands, named, SoundCommand, FaultyCommand, unknown, broken}
 
 -- a byte above 5 is no command
-none_of : (b : ℕ) (cs : List Command) → All (λ c. c.byte < b) cs → named b cs ≡ None
+none_of : (b : ℕ) (cs : List Command) → AllByRecursion (λ c. c.byte < b) cs → named b cs ≡ None
 none_of b [] below = refl
 none_of b (c ∷ cs) below = let first = below.0 in cond-false (eqb b c.byte) (Some c) (named b cs) (ne_eqb b c.byte (λ e. omega arith)) ∙ none_of b cs below.1
 

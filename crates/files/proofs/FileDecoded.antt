@@ -1,6 +1,6 @@
 -- A file that is accepted is the encoding of a well-formed file. Assumes nothing.
 use Rattle.std.proofs.Common.{◌≡◌, ℕ, zero, suc, ◌+◌, ◌-◌, ◌≤◌, Bool, true, false, eqb, leb, List, [], ◌∷◌, ◌++◌, length, take, drop, Ok, Err, sym, refl, ap, ◌∙◌, subst, inl, inr, append_assoc, append-nil, add-zero, add_assoc, arith}
-use Rattle.std.specs.List.{AllByRecursion as All}
+use Rattle.std.specs.List.{AllByRecursion}
 use Rattle.std.proofs.lemmas.List.{length-take-le, length-drop, get_or-take, get_or_past, drop_all, drop-append-le, take-append-drop}
 use Rattle.std.proofs.lemmas.Bool.{cases_lt, leb-true, eqb-true, or_cases, false≢true}
 use Rattle.orc.specs.Meaning.{Meaning}
@@ -73,7 +73,7 @@ module _ (m : Meaning) (n : ℕ) where
     record RestDecoded (k at : ℕ) (file : File) : Type 0 where
       there : drop at bs ≡ definitions_bytes file.definitions ++ bytes file.goal
       count : length file.definitions ≡ k
-      definitions_well_formed : All (WellFormedDefinition m n) file.definitions
+      definitions_well_formed : AllByRecursion (WellFormedDefinition m n) file.definitions
       goal_proper : proper m n file.goal ≡ true
       goal_closed : Closed file.goal
 
@@ -121,7 +121,7 @@ decoded m bs fit file (by_bytes short kept judged) =
     let at_count : (P : ℕ → Type 0) → P n → P (length file.definitions) = λ P p. subst P (sym rest.count) p in (
       record {
         few = at_count (λ c. c ≤ 16) (leb-true n 16 k.1.0);
-        definitions_well_formed = at_count (λ c. All (WellFormedDefinition m c) file.definitions) rest.definitions_well_formed;
+        definitions_well_formed = at_count (λ c. AllByRecursion (WellFormedDefinition m c) file.definitions) rest.definitions_well_formed;
         goal_proper = at_count (λ c. proper m c file.goal ≡ true) rest.goal_proper;
         goal_closed = rest.goal_closed;
         short = subst (λ (l : List ℕ). length l ≤ 4096) is short;

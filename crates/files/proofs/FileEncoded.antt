@@ -1,6 +1,6 @@
 -- The encoding of a well-formed file is accepted, as this file. Assumes nothing.
 use Rattle.std.proofs.Common.{◌≡◌, ℕ, ◌+◌, ◌≤◌, true, false, eqb, leb, List, [], ◌∷◌, ◌++◌, length, take, drop, Ok, sym, refl, ap, ◌∙◌, subst, append_assoc, append-nil, arith}
-use Rattle.std.specs.List.{AllByRecursion as All}
+use Rattle.std.specs.List.{AllByRecursion}
 use Rattle.std.proofs.lemmas.List.{length-append, drop_at, take_at, drop-take}
 use Rattle.std.proofs.lemmas.Bool.{le-leb, eq-eqb, or_left, false≢true}
 use Rattle.orc.specs.Meaning.{Meaning}
@@ -50,7 +50,7 @@ module _ (m : Meaning) (n : ℕ) where
           subst (λ (f : ℕ). DefinitionOutcome m n bs at (Ok (record { formal = f; body = d.body }))) formal_there
           (defines (none_broken (definition_rules bs at) kept) (whole_encoded (take (definition_end bs at) bs) (binding (byte_at bs at) nothing_bound) (at + 3) d.body body_there ok.body_proper bound))
 
-    rest_encoded : (ds : List Definition) (goal : Expression) (at : ℕ) → drop at bs ≡ definitions_bytes ds ++ bytes goal → All (WellFormedDefinition m n) ds → proper m n goal ≡ true → Closed goal
+    rest_encoded : (ds : List Definition) (goal : Expression) (at : ℕ) → drop at bs ≡ definitions_bytes ds ++ bytes goal → AllByRecursion (WellFormedDefinition m n) ds → proper m n goal ≡ true → Closed goal
         → RestOutcome m n bs (length ds) at (Ok (record { definitions = ds; goal = goal }))
     rest_encoded [] goal at there ok is_proper closed = good_goal (whole_encoded bs nothing_bound at goal there is_proper (λ x t. absurd (false≢true (sym (closed x) ∙ t))))
     rest_encoded (d ∷ ds) goal at there ok is_proper closed =

@@ -1,6 +1,6 @@
 -- Rules one by one. Assumes nothing.
 use Rattle.std.proofs.Common.{◌≡◌, ℕ, Bool, true, false, cond, List, [], ◌∷◌, Some, None, Option, refl, ap, ◌∙◌, arith}
-use Rattle.std.specs.List.{AllByRecursion as All}
+use Rattle.std.specs.List.{AllByRecursion}
 use Rattle.formats.specs.declared.fault.Fault.{Fault}
 use Rattle.formats.specs.Operands.{Rule, first_broken}
 
@@ -10,7 +10,7 @@ by_test false rest f none = let z : ◌≡◌ {A = ℕ} 0 1 = cc in absurd (omeg
 
 -- none is broken exactly if each is kept
 abbrev pub AllKept : List Rule → Type 0
-AllKept rs = All (λ r. r.kept ≡ true) rs
+AllKept rs = AllByRecursion (λ r. r.kept ≡ true) rs
 
 pub all_kept : (rs : List Rule) → first_broken rs ≡ None → AllKept rs
 all_kept [] none = tt

@@ -6,7 +6,7 @@ use Rattle.orc.specs.Expressions.{Parameter, value, variable, Expression, stop, 
 use Rattle.formats.specs.Operands.{byte_at, Bytes}
 use Rattle.formats.specs.Widths.{width_of}
 use Rattle.formats.proofs.Left.{byte_left, length_left, first_left}
-use Rattle.forms.specs.Reading.{alone, of_two, opened, opening, read}
+use Rattle.forms.specs.Reading.{of_two, opened, opening, read}
 use Rattle.forms.specs.Shapes.{has_parts, has_parameter, WholeCommand, FormAt, without_parts, with_parts, ExactCommand}
 use Rattle.forms.proofs.Exactly.{shape}
 use Rattle.forms.proofs.Written.{stop_written, site_call_written, definition_call_written, pending_written, one_written, two_written}

@@ -2,7 +2,7 @@
 use Rattle.std.proofs.Common.{◌≡◌, ℕ, zero, suc, ◌<◌, ◌≤◌, Bool, true, false, cond, eqb, leb, List, ◌++◌, length, drop, sym, refl, ap, ◌∙◌, inl, inr, arith, lit≤}
 use Rattle.std.proofs.lemmas.List.{get_or_append_left, length-append, drop_at}
 use Rattle.std.proofs.lemmas.Bool.{le-leb, lt-leb, cases_lt, ne_eqb, eqb-true, cond-true, cond-false, cond_both}
-use Rattle.orc.specs.Expressions.{Expression, stop, sequential, pruning, pending}
+use Rattle.orc.specs.Expressions.{Expression, stop, sequential, pruning}
 use Rattle.formats.specs.Operands.{byte_at}
 use Rattle.formats.specs.Widths.{width_of}
 use Rattle.forms.specs.Reading.{Opening, alone, of_two, no_form, opened, opening}

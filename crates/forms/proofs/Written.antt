@@ -1,5 +1,5 @@
 -- Commands as they are written: which bytes begin a form of which expression. Assumes nothing.
-use Rattle.std.proofs.Common.{◌≡◌, ℕ, zero, ◌+◌, ◌≤◌, true, false, cond, eqb, List, ◌∷◌, ◌++◌, length, drop, ap, ◌∙◌, add-zero, add_assoc, arith}
+use Rattle.std.proofs.Common.{◌≡◌, ℕ, ◌+◌, ◌≤◌, cond, eqb, List, ◌∷◌, ◌++◌, length, drop, ap, ◌∙◌, add-zero, add_assoc, arith}
 use Rattle.std.proofs.lemmas.Bool.{eqb-true, eqb-false, cond_both}
 use Rattle.orc.specs.Expressions.{value, variable, stop, site_call, definition_call, pending, two_bytes, parameter_bytes, bytes}
 use Rattle.formats.specs.Operands.{byte_at, Bytes, two_at, four_at}

@@ -1,6 +1,6 @@
 // Where a form ends, by its commands and their widths alone.
 ghost use Rattle.std.specs.Prelude.{◌≡◌, ℕ, ◌+◌, ◌<◌, ◌≤◌, List, ◌++◌, length, drop, IfSome, Some, MatchOption};
-ghost use Rattle.orc.specs.Expressions.{Expression, bytes as form-bytes};
+ghost use Rattle.orc.specs.Expressions.{Expression, bytes as form_bytes};
 ghost use Rattle.formats.specs.Operands.{byte_at};
 ghost use Rattle.forms.specs.Shapes.{has_parts, WholeCommand, ExactCommand, FormAt};
 
@@ -43,7 +43,7 @@ pub fn form_end(bytes: &[u8], at: usize) -> Option<usize>
     ensures found { IfSome result (λ end. FormAt bytes.now at end) }
     ensures within { IfSome result (λ end. (at < end) × (end ≤ length bytes.now)) }
     ensures only { (end : ℕ) → FormAt bytes.now at end → result ≡ Some end }
-    ensures exact { (e : Expression) (rest : List ℕ) → drop at bytes.now ≡ form-bytes e ++ rest → result ≡ Some (at + length (form-bytes e)) }
+    ensures exact { (e : Expression) (rest : List ℕ) → drop at bytes.now ≡ form_bytes e ++ rest → result ≡ Some (at + length (form_bytes e)) }
 {
     let mut end = at;
     let mut open: usize = 1;

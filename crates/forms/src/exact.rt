@@ -1,6 +1,6 @@
 // Bytes that are the bytes of an expression, and no more.
 ghost use Rattle.std.specs.Prelude.{◌≡◌, MatchOption, ◌≢◌};
-ghost use Rattle.orc.specs.Expressions.{Expression, bytes as form-bytes};
+ghost use Rattle.orc.specs.Expressions.{Expression, bytes as form_bytes};
 ghost use Rattle.forms.specs.Heads.{expression};
 
 use crate::ends::{exact_command, is_split};
@@ -9,7 +9,7 @@ use formats::widths::width;
 
 // The bytes as a form, if an expression has these bytes.
 pub fn expression_form<'a>(bytes: &'a [u8]) -> Option<Form<'a>>
-    ensures { MatchOption result ((e : Expression) → bytes.now ≢ form-bytes e) (λ f. (bytes.now ≡ form-bytes (expression f)) × (f.bytes.now ≡ bytes.now)) }
+    ensures { MatchOption result ((e : Expression) → bytes.now ≢ form_bytes e) (λ f. (bytes.now ≡ form_bytes (expression f)) × (f.bytes.now ≡ bytes.now)) }
 {
     let mut at = 0;
     let mut open: usize = 1;

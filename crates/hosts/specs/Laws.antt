@@ -1,7 +1,7 @@
 -- That the meanings of a sheet and of a pair keep the ranges and laws. Assumes nothing.
 use Rattle.std.specs.Prelude.{◌≡◌, ℕ, ◌-◌, true, false, cond, List, [], ◌∷◌, length, nat_le, nat_lt, refl}
 use Rattle.std.proofs.Common.{arith}
-use Rattle.std.specs.List.{AllByRecursion as All}
+use Rattle.std.specs.List.{AllByRecursion}
 use Rattle.std.proofs.lemmas.Bool.{and_parts, leb-true}
 use Rattle.orc.specs.Meaning.{Window, Handle, Meaning, known, unknown, some, SoundWindow, SoundHandle, comes_to_something, Lawful}
 use Rattle.orc.specs.Local.{never}
@@ -28,7 +28,7 @@ window_is_sound w t =
       highest_fits = leb-true w.highest 65535 d.1;
     }
 
-windows_are_sound : (ws : List Window) → every sound_window ws ≡ true → All SoundWindow ws
+windows_are_sound : (ws : List Window) → every sound_window ws ≡ true → AllByRecursion SoundWindow ws
 windows_are_sound [] t = tt
 windows_are_sound (w ∷ ws) t = let a = and_parts (sound_window w) (every sound_window ws) t in (window_is_sound w a.0, windows_are_sound ws a.1)
 

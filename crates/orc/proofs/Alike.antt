@@ -1,6 +1,6 @@
 -- Expressions that are alike from a tick on, and so have the same executions.
 use Rattle.std.proofs.Common.{◌≡◌, ℕ, ◌≤◌, Bool, true, false, cond, eqb, List, [], ◌∷◌, ◌++◌, refl, subst, le_refl, arith}
-use Rattle.std.specs.List.{AllByRecursion as All}
+use Rattle.std.specs.List.{AllByRecursion}
 use Rattle.std.proofs.lemmas.Bool.{or_left, both_ways, cond_both}
 use Rattle.std.proofs.ByRecursion.{All-append}
 use Rattle.std.proofs.lemmas.Bool.Decides.{nat_tests}
@@ -30,7 +30,7 @@ data Like (W : World) (u : ℕ) : Expression → Expression → Type 0 where
   stop_left : {g : Expression} → Like W u (parallel stop g) g
   stop_right : {f : Expression} → Like W u (parallel f stop) f
   stop_first : {x : ℕ} {g : Expression} → Like W u (sequential x stop g) stop
-  stop_pruned : {x : ℕ} {f : Expression} → All ClosedButFormal W.definitions → free x f ≡ false → Like W u (pruning x f stop) f
+  stop_pruned : {x : ℕ} {f : Expression} → AllByRecursion ClosedButFormal W.definitions → free x f ≡ false → Like W u (pruning x f stop) f
   lapses_silently : {k s v c : ℕ} → (handle W.meaning s v).silent ≡ true → within_reach (handle W.meaning s v) c u ≡ false → Like W u (pending k s v c) stop
   renumbered : {k k' s v c : ℕ} → Like W u (pending k s v c) (pending k' s v c)
 
@@ -160,7 +160,7 @@ module _ {W : World} {u : ℕ} where
   gains_sequential : {x : ℕ} {g : Expression} → Mirrors W u stop (sequential x stop g)
   gains_sequential = record { passes = λ t n h r. r; steps = λ h s. stop_rests s }
 
-  loses_pruning : {x : ℕ} {f : Expression} → All ClosedButFormal W.definitions → free x f ≡ false → Mirrors W u (pruning x f stop) f
+  loses_pruning : {x : ℕ} {f : Expression} → AllByRecursion ClosedButFormal W.definitions → free x f ≡ false → Mirrors W u (pruning x f stop) f
   loses_pruning {x} {f} c n = record { passes = λ t n h r. r.0; steps = λ h s. of s }
     where
       of : {t k : ℕ} {l : Leaf} {a : Act} {gone : List Pending} {e₁ : Expression} → Step W t k (pruning x f stop) l a gone e₁ → Answer W u t f a e₁
@@ -168,7 +168,7 @@ module _ {W : World} {u : ℕ} where
       of (pruning_keeps _ _ s) = stop_rests s
       of (pruning_binds _ s) = stop_rests s
 
-  gains_pruning : {x : ℕ} {f : Expression} → All ClosedButFormal W.definitions → free x f ≡ false → Mirrors W u f (pruning x f stop)
+  gains_pruning : {x : ℕ} {f : Expression} → AllByRecursion ClosedButFormal W.definitions → free x f ≡ false → Mirrors W u f (pruning x f stop)
   gains_pruning {x} {f} c a = record { passes = λ t n h r. (r, pass_forward W t n f r); steps = λ h s. answer (pruning_left s) (back (stop_pruned c (step_frees_none c x s a))) }
 
   loses_call : {k s v c : ℕ} → within_reach (handle W.meaning s v) c u ≡ false → Mirrors W u (pending k s v c) stop
@@ -217,7 +217,7 @@ like_executes {W} {u} (m ∷ ms) t n {e} p h x =
     (r.0, record { passes = (mirrors p).0.passes t (tick m) h x.1.passes; moves = r.1 }, like_executes ms (tick m) n r.2 later x.2)
 
 -- An expression is like its simplified form.
-like_simplified : {W : World} {u : ℕ} → All ClosedButFormal W.definitions → (e : Expression) → Like W u e (simplified e)
+like_simplified : {W : World} {u : ℕ} → AllByRecursion ClosedButFormal W.definitions → (e : Expression) → Like W u e (simplified e)
 unfolding simplified
 like_simplified c stop = same
 like_simplified c (site_call s p) = same
@@ -236,7 +236,7 @@ like_simplified {W} {u} c (pruning x f g) =
     by_pruning (Like W u (pruning x f g)) x (simplified f) (simplified g) (λ h n. chain (prunings p (subst (Like W u g) h q)) (stop_pruned c n)) (λ _. prunings p q)
 like_simplified c (pending k s v c') = same
 
-all_parts : {X : Type 0} (P : X → Type 0) (xs ys : List X) → All P (xs ++ ys) → All P xs × All P ys
+all_parts : {X : Type 0} (P : X → Type 0) (xs ys : List X) → AllByRecursion P (xs ++ ys) → AllByRecursion P xs × AllByRecursion P ys
 all_parts P [] ys a = (tt, a)
 all_parts P (x ∷ xs) ys a = let h = all_parts P xs ys a.1 in ((a.0, h.0), h.1)
 

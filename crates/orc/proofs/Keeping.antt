@@ -1,6 +1,6 @@
 -- What every step keeps.
 use Rattle.std.proofs.Common.{◌≡◌, ℕ, zero, suc, ◌+◌, ◌≤◌, Bool, true, false, cond, eqb, ◌⊎◌, List, [], ◌∷◌, ◌++◌, Some, count_by, sym, refl, ap, ◌∙◌, subst, inl, inr, arith}
-use Rattle.std.specs.List.{AllByRecursion as All}
+use Rattle.std.specs.List.{AllByRecursion}
 use Rattle.std.proofs.lemmas.Bool.Decides.{nat_tests, eqb_tells}
 use Rattle.orc.specs.Expressions.{Expression, World, entry}
 use Rattle.orc.specs.Variables.{substitute, free}
@@ -13,13 +13,13 @@ use Rattle.orc.proofs.Simplifying.{nothing_unbegun}
 use Rattle.orc.proofs.Leaves.{publishes, stands, count_parts}
 
 -- each definition of a list has what one that a number leads to must have
-all_entry : {X : Type 0} (P : X → Type 0) (xs : List X) (i : ℕ) (x : X) → All P xs → entry xs i ≡ Some x → P x
+all_entry : {X : Type 0} (P : X → Type 0) (xs : List X) (i : ℕ) (x : X) → AllByRecursion P xs → entry xs i ≡ Some x → P x
 all_entry P [] i x a h = let z : ◌≡◌ {A = ℕ} 0 1 = cc in absurd (omega arith)
 all_entry P (y ∷ ys) zero x a h = let z : y ≡ x = cc in subst P z a.0
 all_entry P (y ∷ ys) (suc i) x a h = all_entry P ys i x a.1 h
 
 -- No step frees a variable, if no definition has a free variable but its formal.
-pub step_frees_none : {W : World} {t k : ℕ} {e e' : Expression} {l : Leaf} {a : Act} {gone : List Pending} → All ClosedButFormal W.definitions → (y : ℕ) → Step W t k e l a gone e' → free y e ≡ false → free y e' ≡ false
+pub step_frees_none : {W : World} {t k : ℕ} {e e' : Expression} {l : Leaf} {a : Act} {gone : List Pending} → AllByRecursion ClosedButFormal W.definitions → (y : ℕ) → Step W t k e l a gone e' → free y e ≡ false → free y e' ≡ false
 unfolding free
 step_frees_none c y calls n = refl
 step_frees_none {W} c y (unfolds {i} {v} d h) n =
@@ -36,7 +36,7 @@ step_frees_none c y (pruning_keeps q p s) n = let h = step_frees_none c y s in g
 step_frees_none c y (pruning_binds {x} {w} {f} q s) n = let r = free_substitute w x y f in grind (arith, nat_tests)
 
 -- a step begins no pending call on the right of a sequential
-keeps_unbegun : {W : World} {t k : ℕ} {e e' : Expression} {l : Leaf} {a : Act} {gone : List Pending} → All (λ d. NothingPending d.body) W.definitions → Step W t k e l a gone e' → RightsUnbegun e → RightsUnbegun e'
+keeps_unbegun : {W : World} {t k : ℕ} {e e' : Expression} {l : Leaf} {a : Act} {gone : List Pending} → AllByRecursion (λ d. NothingPending d.body) W.definitions → Step W t k e l a gone e' → RightsUnbegun e → RightsUnbegun e'
 unfolding RightsUnbegun
 keeps_unbegun n calls u = tt
 keeps_unbegun {W} n (unfolds {i} {v} d h) u = unbegun_substitute v d.formal d.body (nothing_unbegun d.body (all_entry (λ d. NothingPending d.body) W.definitions i d n h))
@@ -50,7 +50,7 @@ keeps_unbegun n (pruning_keeps b c s) u = (u.0, keeps_unbegun n s u.1)
 keeps_unbegun n (pruning_binds {x} {w} {f} b s) u = unbegun_substitute w x f u.0
 
 -- a step leads to no number outside the list
-keeps_numbers : {W : World} {t k : ℕ} {e e' : Expression} {l : Leaf} {a : Act} {gone : List Pending} → All (λ d. NumbersWithin W.definitions d.body) W.definitions → Step W t k e l a gone e' → NumbersWithin W.definitions e → NumbersWithin W.definitions e'
+keeps_numbers : {W : World} {t k : ℕ} {e e' : Expression} {l : Leaf} {a : Act} {gone : List Pending} → AllByRecursion (λ d. NumbersWithin W.definitions d.body) W.definitions → Step W t k e l a gone e' → NumbersWithin W.definitions e → NumbersWithin W.definitions e'
 unfolding NumbersWithin
 keeps_numbers n calls u = tt
 keeps_numbers {W} n (unfolds {i} {v} d h) u = numbers_substitute W.definitions v d.formal d.body (all_entry (λ d. NumbersWithin W.definitions d.body) W.definitions i d n h)
@@ -71,7 +71,7 @@ even_right : {X : Type 0} (c : X → Bool) (ps qs qs' : List X) (m a g : ℕ) �
 even_right c ps qs qs' m a g h = omega (arith, count_parts c ps qs, count_parts c ps qs')
 
 -- the pending calls before a step and the one that it begins are those answered, withdrawn and pending after it
-balance : {W : World} {t k : ℕ} {e e' : Expression} {l : Leaf} {a : Act} {gone : List Pending} → All (λ d. NothingPending d.body) W.definitions → (c : Pending → Bool) (s : Step W t k e l a gone e') → RightsUnbegun e → count_by c (pending_calls e) + count_by c (begun t k a) ≡ count_by c (stands s).0 + (count_by c gone + count_by c (pending_calls e'))
+balance : {W : World} {t k : ℕ} {e e' : Expression} {l : Leaf} {a : Act} {gone : List Pending} → AllByRecursion (λ d. NothingPending d.body) W.definitions → (c : Pending → Bool) (s : Step W t k e l a gone e') → RightsUnbegun e → count_by c (pending_calls e) + count_by c (begun t k a) ≡ count_by c (stands s).0 + (count_by c gone + count_by c (pending_calls e'))
 unfolding pending_calls RightsUnbegun stands
 balance n c calls u = omega arith
 balance {W} n c (unfolds {i} {v} d h) u =
@@ -94,7 +94,7 @@ balance n c (pruning_binds {x} {w} {f} {g} {g'} b s) u =
     let kept = ap (count_by c) (pending_substitute w x f) in
     omega (arith, count_parts c (pending_calls f) (pending_calls g))
 
-accounted : {W : World} {t k : ℕ} {e e' : Expression} {l : Leaf} {a : Act} {gone : List Pending} → All (λ d. NothingPending d.body) W.definitions → Step W t k e l a gone e' → RightsUnbegun e → Accounted W t k e l a gone e'
+accounted : {W : World} {t k : ℕ} {e e' : Expression} {l : Leaf} {a : Act} {gone : List Pending} → AllByRecursion (λ d. NothingPending d.body) W.definitions → Step W t k e l a gone e' → RightsUnbegun e → Accounted W t k e l a gone e'
 accounted n s u = record { answered = (stands s).0; by_the_leaf = (stands s).1; balance = λ c. balance n c s u }
 
 -- a site call begins one pending call with the step's ticket, and no act begins one with another
@@ -104,7 +104,7 @@ begun_count t k j inner = omega arith
 begun_count t k j (out w) = omega arith
 
 -- a step with a fresh ticket leaves the tickets distinct
-keeps_distinct : {W : World} {t k : ℕ} {e e' : Expression} {l : Leaf} {a : Act} {gone : List Pending} → All (λ d. NothingPending d.body) W.definitions → Step W t k e l a gone e' → RightsUnbegun e → standing k e ≡ 0 → DistinctTickets e → DistinctTickets e'
+keeps_distinct : {W : World} {t k : ℕ} {e e' : Expression} {l : Leaf} {a : Act} {gone : List Pending} → AllByRecursion (λ d. NothingPending d.body) W.definitions → Step W t k e l a gone e' → RightsUnbegun e → standing k e ≡ 0 → DistinctTickets e → DistinctTickets e'
 keeps_distinct {W} {t} {k} {e} {e'} {l} {a} n s u fresh d j = fresh_or_not (eqb_tells j k)
   where
     fresh_or_not : ((eqb j k ≡ true) × (j ≡ k)) ⊎ ((eqb j k ≡ false) × (j ≡ k → ⊥)) → standing j e' ≤ 1

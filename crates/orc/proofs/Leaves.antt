@@ -1,6 +1,6 @@
 -- Transitions by their leaf: which leaves can move, to what, and what becomes of the pending calls.
 use Rattle.std.proofs.Common.{◌≡◌, ℕ, zero, suc, ◌+◌, ◌-◌, ◌<◌, ◌≤◌, Bool, true, cond, eqb, List, [], ◌∷◌, ◌++◌, length, get_or, Some, count_by, sym, refl, ap, ◌∙◌, subst, ap₂, inl, inr, arith}
-use Rattle.std.specs.List.{ContainsAt as Has, AllByRecursion as All}
+use Rattle.std.specs.List.{ContainsAt as Has, AllByRecursion}
 use Rattle.std.proofs.lemmas.Bool.{eq-eqb, cases_lt}
 use Rattle.std.proofs.lemmas.List.Sums.{sum_by-append, get_or-le-sum_by}
 use Rattle.std.proofs.ByRecursion.{has_append_left, has_append_right, has_push, All-append, All-weaker, all-has}
@@ -170,10 +170,10 @@ module _ (W : World) (t k : ℕ) where
   abbrev Replying : Expression → Pending → Type 0
   Replying e p = (w : ℕ) → can_reply (handle_at W.meaning p) p.since t w ≡ true → CanMove W t k e (reply p.ticket w)
 
-  replying_part : {f : Expression} (e : Expression) → ((j w : ℕ) → CanMove W t k f (reply j w) → CanMove W t k e (reply j w)) → All (Replying f) (pending_calls f) → All (Replying e) (pending_calls f)
+  replying_part : {f : Expression} (e : Expression) → ((j w : ℕ) → CanMove W t k f (reply j w) → CanMove W t k e (reply j w)) → AllByRecursion (Replying f) (pending_calls f) → AllByRecursion (Replying e) (pending_calls f)
   replying_part {f} e up = All-weaker (Replying f) (Replying e) (λ p m w r. up p.ticket w (m w r)) (pending_calls f)
 
-  reply_moves : (e : Expression) → RightsUnbegun e → All (Replying e) (pending_calls e)
+  reply_moves : (e : Expression) → RightsUnbegun e → AllByRecursion (Replying e) (pending_calls e)
   unfolding pending_calls RightsUnbegun
   reply_moves stop u = tt
   reply_moves (site_call s p) u = tt

@@ -1,6 +1,6 @@
 -- Expressions that hold no pending call. Assumes nothing.
 use Rattle.std.proofs.Common.{◌≡◌, ℕ, zero, suc, Bool, true, false, cond, eqb, List, [], ◌∷◌, ◌++◌, Some, sym, refl, ap, ◌∙◌, ap₂, le_refl}
-use Rattle.std.specs.List.{AllByRecursion as All}
+use Rattle.std.specs.List.{AllByRecursion}
 use Rattle.orc.specs.Expressions.{Parameter, value, variable, Expression, stop, site_call, definition_call, parallel, sequential, pruning, pending, Definition, World, entry}
 use Rattle.orc.specs.Variables.{substitute, substitute_below}
 use Rattle.orc.specs.Calls.{pending_calls, NothingPending}
@@ -48,7 +48,7 @@ stays W t (pruning x f g) h = let p = parts_nothing_pending f g h in (stays W t 
 stays W t (pending k s v c) h = (le_refl t, cc)
 
 -- what a definition call becomes holds no pending call
-body_nothing_pending : (ds : List Definition) (i : ℕ) (d : Definition) → All (λ (d : Definition). NothingPending d.body) ds → entry ds i ≡ Some d → NothingPending d.body
+body_nothing_pending : (ds : List Definition) (i : ℕ) (d : Definition) → AllByRecursion (λ (d : Definition). NothingPending d.body) ds → entry ds i ≡ Some d → NothingPending d.body
 body_nothing_pending [] i d h q = cc
 body_nothing_pending (d' ∷ ds) zero d h q = let s : d' ≡ d = cc in ap (λ (d : Definition). pending_calls d.body) (sym s) ∙ h.0
 body_nothing_pending (d' ∷ ds) (suc i) d h q = body_nothing_pending ds i d h.1 q

@@ -2,7 +2,7 @@
 -- that there is. Assumes nothing.
 use Rattle.std.proofs.Common.{◌≡◌, ℕ, zero, suc, ◌+◌, ◌*◌, true, false, ◌&&◌, eqb, List, [], ◌∷◌, Some, refl, zero-le, le_refl, zero-add, arith}
 use Rattle.std.proofs.lemmas.Bool.{false≢true, eq-eqb}
-use Rattle.std.specs.List.{AllByRecursion as All}
+use Rattle.std.specs.List.{AllByRecursion}
 use Rattle.std.proofs.lemmas.Bool.Decides.{nat_tests}
 use Rattle.orc.specs.Meaning.{handle, within_reach, can_stand, can_reply}
 use Rattle.orc.specs.Local.{exactly}
@@ -183,7 +183,7 @@ exact c n u v q = grind (arith, nat_tests)
 stands : (c n u v : ℕ) → u ≡ c + n → can_stand (exactly n v) c u ≡ true
 stands c n u v q = replies_stands (exactly n v) c u v (exact c n u v q)
 
-closed : All ClosedButFormal (beat ∷ [])
+closed : AllByRecursion ClosedButFormal (beat ∷ [])
 unfolding free
 closed = (λ x h. grind (arith, nat_tests), tt)
 

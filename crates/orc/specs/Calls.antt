@@ -1,6 +1,6 @@
 -- The calls of an expression that can be made now, and those that were made and wait. Assumes nothing.
 use Rattle.std.specs.Prelude.{◌≡◌, ℕ, ◌+◌, Bool, cond, not, List, [], ◌∷◌, ◌++◌}
-use Rattle.std.specs.List.{AllByRecursion as All}
+use Rattle.std.specs.List.{AllByRecursion}
 use Rattle.orc.specs.Meaning.{Handle, Meaning, handle, within_reach}
 use Rattle.orc.specs.Expressions.{Parameter, value, variable, Expression, stop, site_call, definition_call, parallel, sequential, pruning, pending, Definition}
 
@@ -59,7 +59,7 @@ NothingPending e = pending_calls e ≡ []
 
 -- no definition holds one
 abbrev pub NothingPendingIn : List Definition → Type 0
-NothingPendingIn ds = All (λ (d : Definition). NothingPending d.body) ds
+NothingPendingIn ds = AllByRecursion (λ (d : Definition). NothingPending d.body) ds
 
 -- no pending call in the right part of a sequential
 unfoldable pub RightsUnbegun : Expression → Type 0

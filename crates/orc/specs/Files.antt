@@ -1,7 +1,7 @@
 -- The parameter file: what it holds, its bytes, and when it is well-formed over what the sites of a host can reply.
 -- Assumes nothing.
 use Rattle.std.specs.Prelude.{◌≡◌, ℕ, ◌≤◌, Bool, true, false, ◌&&◌, List, [], ◌∷◌, ◌++◌, length, nat_le, nat_lt}
-use Rattle.std.specs.List.{AllByRecursion as All}
+use Rattle.std.specs.List.{AllByRecursion}
 use Rattle.orc.specs.Meaning.{Meaning, is_known}
 use Rattle.orc.specs.Expressions.{Parameter, value, variable, Expression, stop, site_call, definition_call, parallel, sequential, pruning, pending, Definition, World, two_bytes, bytes, size}
 use Rattle.orc.specs.Sound.{Closed, ClosedButFormal}
@@ -50,7 +50,7 @@ pub record WellFormedDefinition (m : Meaning) (n : ℕ) (d : Definition) : Type 
 -- At most 16 definitions and 4,096 bytes; only its formal is free in a definition, and nothing in the goal.
 pub record WellFormed (m : Meaning) (file : File) : Type 0 where
   pub few : length file.definitions ≤ 16
-  pub definitions_well_formed : All (WellFormedDefinition m (length file.definitions)) file.definitions
+  pub definitions_well_formed : AllByRecursion (WellFormedDefinition m (length file.definitions)) file.definitions
   pub goal_proper : proper m (length file.definitions) file.goal ≡ true
   pub goal_closed : Closed file.goal
   pub short : length (file_bytes file) ≤ 4096

@@ -1,7 +1,7 @@
 -- The laws of expressions, of simplification and lapsing, and of transitions. Each is the contract of a function of
 -- src/laws.rt. Assumes nothing.
 use Rattle.std.specs.Prelude.{◌≡◌, ℕ, ◌+◌, ◌<◌, ◌≤◌, Bool, true, false, not, ◌↔◌, List, [], ◌∷◌, count_by, filter}
-use Rattle.std.specs.List.{ContainsAt as Has, AllByRecursion as All}
+use Rattle.std.specs.List.{ContainsAt as Has, AllByRecursion}
 use Rattle.orc.specs.Meaning.{Meaning, can_reply}
 use Rattle.orc.specs.Expressions.{Expression, stop, parallel, sequential, pruning, size, World}
 use Rattle.orc.specs.Variables.{substitute, free}
@@ -41,11 +41,11 @@ pub record IdentitiesKeepExecutions : Type 0 where
   pub stop_on_the_left : (W : World) (t : ℕ) (g : Expression) → SameExecutions W t (parallel stop g) g
   pub stop_on_the_right : (W : World) (t : ℕ) (f : Expression) → SameExecutions W t (parallel f stop) f
   pub nothing_published : (W : World) (t x : ℕ) (g : Expression) → SameExecutions W t (sequential x stop g) stop
-  pub nothing_pruned : (W : World) → All ClosedButFormal W.definitions → (t x : ℕ) (f : Expression) → free x f ≡ false → SameExecutions W t (pruning x f stop) f
+  pub nothing_pruned : (W : World) → AllByRecursion ClosedButFormal W.definitions → (t x : ℕ) (f : Expression) → free x f ≡ false → SameExecutions W t (pruning x f stop) f
 
 -- So does simplification as a whole.
 abbrev pub SimplificationKeepsExecutions : Type 0
-SimplificationKeepsExecutions = (W : World) → All ClosedButFormal W.definitions → (t : ℕ) (e : Expression) → SameExecutions W t e (simplified e)
+SimplificationKeepsExecutions = (W : World) → AllByRecursion ClosedButFormal W.definitions → (t : ℕ) (e : Expression) → SameExecutions W t e (simplified e)
 
 -- Lapsing at tick u keeps the executions from u on, where each pending call can stand at u: then a call that no window
 -- reaches is silent, and as good as stop.

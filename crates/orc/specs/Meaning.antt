@@ -5,7 +5,7 @@
 -- ends included. A handle is all that one call can come to: its windows, and whether the site may stay silent for ever.
 -- A meaning says of each site that it is unknown, or gives for each value the handle of a call with it.
 use Rattle.std.specs.Prelude.{◌≡◌, ℕ, ◌+◌, ◌<◌, ◌≤◌, Bool, true, false, ◌&&◌, ◌||◌, List, [], ◌∷◌, length, ◌==◌, nat_le}
-use Rattle.std.specs.List.{AllByRecursion as All}
+use Rattle.std.specs.List.{AllByRecursion}
 
 pub record Window : Type 0 where
   pub earliest : ℕ
@@ -79,7 +79,7 @@ pub record SoundWindow (w : Window) : Type 0 where
 
 pub record SoundHandle (h : Handle) : Type 0 where
   pub few : length h.windows ≤ 4
-  pub sound : All SoundWindow h.windows
+  pub sound : AllByRecursion SoundWindow h.windows
 
 abbrev pub nonempty : {X : Type 0} → List X → Bool
 nonempty [] = false

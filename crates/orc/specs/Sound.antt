@@ -1,6 +1,6 @@
 -- What an expression and a list of definitions keep so that each call's transition is determined. Assumes nothing.
 use Rattle.std.specs.Prelude.{◌≡◌, ℕ, ◌<◌, ◌≤◌, true, false, List, length, count_by, nat_eq}
-use Rattle.std.specs.List.{AllByRecursion as All}
+use Rattle.std.specs.List.{AllByRecursion}
 use Rattle.orc.specs.Meaning.{Meaning, can_stand}
 use Rattle.orc.specs.Expressions.{Expression, stop, site_call, definition_call, parallel, sequential, pruning, pending, Definition, World}
 use Rattle.orc.specs.Variables.{free}
@@ -34,7 +34,7 @@ DistinctTickets e = (k : ℕ) → standing k e ≤ 1
 
 -- each pending call can be unanswered at tick n
 abbrev pub AllCanStand : Meaning → ℕ → Expression → Type 0
-AllCanStand m n e = All (λ p. can_stand (handle_at m p) p.since n ≡ true) (pending_calls e)
+AllCanStand m n e = AllByRecursion (λ p. can_stand (handle_at m p) p.since n ≡ true) (pending_calls e)
 
 -- an expression in which the ticket or the number of a call tells which call is meant, and what it becomes
 pub record Sound (W : World) (e : Expression) : Type 0 where
@@ -44,6 +44,6 @@ pub record Sound (W : World) (e : Expression) : Type 0 where
 
 -- definitions whose unfolding brings no free variable, no pending call and no number that leads nowhere
 pub record SoundDefinitions (ds : List Definition) : Type 0 where
-  pub closed : All ClosedButFormal ds
+  pub closed : AllByRecursion ClosedButFormal ds
   pub nothing_pending : NothingPendingIn ds
-  pub numbers : All (λ d. NumbersWithin ds d.body) ds
+  pub numbers : AllByRecursion (λ d. NumbersWithin ds d.body) ds

@@ -1,7 +1,7 @@
 -- The first scale that fits is the smallest of the series that does. Assumes nothing.
 use Rattle.std.proofs.Common.{◌≡◌, ℕ, ◌*◌, ◌<◌, ◌≤◌, Bool, true, false, ◌&&◌, ◌||◌, eqb, ltb, leb, ◌⊎◌, List, [], ◌∷◌, sym, refl, subst, inl, inr, ⊎_elim, arith}
 use Rattle.std.proofs.lemmas.Bool.{eqb-true, leb-true, ltb-false, and_parts, or_cases, cond_both, both_ways}
-use Rattle.std.specs.List.{AllByRecursion as All}
+use Rattle.std.specs.List.{AllByRecursion}
 use Rattle.pictures.specs.Drawings.{Series, one, two, five, tenfold, first_fit}
 
 -- the scales below the last, from the smallest on
@@ -68,10 +68,10 @@ pub smallest_fits : (clock m : ℕ) → Series m → clock < 60 * m → first_fi
 smallest_fits clock m s fits = least clock 1 m scales rises fits (known m s)
 
 -- each is of the series
-each : All Series scales
+each : AllByRecursion Series scales
 each = (one, (two, (five, ((tenfold one), ((tenfold two), ((tenfold five), ((tenfold (tenfold one)), ((tenfold (tenfold two)), ((tenfold (tenfold five)), ((tenfold (tenfold (tenfold one))), ((tenfold (tenfold (tenfold two))), ((tenfold (tenfold (tenfold five))), ((tenfold (tenfold (tenfold (tenfold one)))), ((tenfold (tenfold (tenfold (tenfold two)))), ((tenfold (tenfold (tenfold (tenfold five)))), ((tenfold (tenfold (tenfold (tenfold (tenfold one))))), ((tenfold (tenfold (tenfold (tenfold (tenfold two))))), ((tenfold (tenfold (tenfold (tenfold (tenfold five))))), ((tenfold (tenfold (tenfold (tenfold (tenfold (tenfold one)))))), ((tenfold (tenfold (tenfold (tenfold (tenfold (tenfold two)))))), ((tenfold (tenfold (tenfold (tenfold (tenfold (tenfold five)))))), ((tenfold (tenfold (tenfold (tenfold (tenfold (tenfold (tenfold one))))))), ((tenfold (tenfold (tenfold (tenfold (tenfold (tenfold (tenfold two))))))), ((tenfold (tenfold (tenfold (tenfold (tenfold (tenfold (tenfold five))))))), tt))))))))))))))))))))))))
 
-stays : (clock : ℕ) (xs : List ℕ) → All Series xs → Series (first_fit clock xs)
+stays : (clock : ℕ) (xs : List ℕ) → AllByRecursion Series xs → Series (first_fit clock xs)
 stays clock [] all = tenfold (tenfold (tenfold (tenfold (tenfold (tenfold (tenfold (tenfold one)))))))
 stays clock (x ∷ xs) all = cond_both (ltb clock (60 * x)) x (first_fit clock xs) Series (λ t. all.0) (λ f. stays clock xs all.1)
 

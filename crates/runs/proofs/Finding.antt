@@ -1,6 +1,6 @@
 -- The first element of a list that passes a test, and where the elements of joined lists stand. Assumes nothing.
 use Rattle.std.proofs.Common.{◌≡◌, ℕ, zero, suc, ◌-◌, ◌<◌, ◌≤◌, Bool, true, false, cond, ◌⊎◌, List, [], ◌∷◌, ◌++◌, length, get_or, Some, None, count_by, filter, Option, sym, refl, ap, ◌∙◌, subst, inl, inr, arith, length-append}
-use Rattle.std.specs.List.{ContainsAt as Has, AllByRecursion as All}
+use Rattle.std.specs.List.{ContainsAt as Has, AllByRecursion}
 use Rattle.std.proofs.lemmas.List.{get_or_append_left, get_or-append_right, nil_from_length}
 use Rattle.std.proofs.lemmas.List.Sums.{get_or-le-sum_by, length-filter}
 use Rattle.std.proofs.lemmas.Bool.{cases_lt, both_ways}
@@ -41,7 +41,7 @@ unfolding find
 find_first f (at_once h) = rw h
 find_first f (further_on h r) = rw h (find_first f r)
 
-pub find_none : {X : Type 0} (f : X → Bool) (xs : List X) → All (λ x. f x ≡ false) xs → find f xs ≡ None
+pub find_none : {X : Type 0} (f : X → Bool) (xs : List X) → AllByRecursion (λ x. f x ≡ false) xs → find f xs ≡ None
 unfolding find
 find_none f [] a = refl
 find_none f (x ∷ xs) a = rw a.0 (find_none f xs a.1)
@@ -76,7 +76,7 @@ find_only f xs x c h y = find_kept f xs (kept_only f xs x c h y)
 
 -- What is found passes, and it is the first; if nothing is found, none passes.
 abbrev pub Found : {X : Type 0} → (X → Bool) → List X → Option X → Type 0
-Found f xs None = All (λ x. f x ≡ false) xs
+Found f xs None = AllByRecursion (λ x. f x ≡ false) xs
 Found f xs (Some x) = First f xs x
 
 found_cons : {X : Type 0} (f : X → Bool) (x : X) (xs : List X) (o : Option X) (b : Bool) → f x ≡ b → Found f xs o → Found f (x ∷ xs) (cond b (Some x) o)

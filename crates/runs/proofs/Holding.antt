@@ -1,6 +1,6 @@
 -- What every state of a run keeps, over what its sites can reply. Assumes nothing.
 use Rattle.std.proofs.Common.{◌≡◌, ℕ, suc, ◌+◌, true, not, List, length, filter, refl, ◌∙◌}
-use Rattle.std.specs.List.{AllByRecursion as All}
+use Rattle.std.specs.List.{AllByRecursion}
 use Rattle.std.proofs.ByRecursion.{All-weaker, kept_by_passes}
 use Rattle.std.proofs.lemmas.Bool.{not-true, not-false, leb-true}
 use Rattle.orc.specs.Meaning.{Meaning, within_reach, can_stand, Lawful}
@@ -21,12 +21,12 @@ use Rattle.runs.proofs.Ranging.{simplified_passes, lapsed_passes, RangedAct, Kno
 use Rattle.runs.proofs.Standing.{carried, decides_itself, reached_stands, made_stands, reply_begins}
 
 -- the pending call that an act begins can stand
-made_stand : (m : Meaning) → Lawful m → (t k : ℕ) (a : Act) → RangedAct a → KnownAct m a → All (λ p. can_stand (handle_at m p) p.since t ≡ true) (made t k a)
+made_stand : (m : Meaning) → Lawful m → (t k : ℕ) (a : Act) → RangedAct a → KnownAct m a → AllByRecursion (λ p. can_stand (handle_at m p) p.since t ≡ true) (made t k a)
 made_stand m laws t k (called s v) r q = (made_stands m laws s v t (leb-true v 65535 r.1) q.0, tt)
 made_stand m laws t k inner r q = tt
 made_stand m laws t k (out w) r q = tt
 
-all_reached : (m : Meaning) (n : ℕ) (ps : List Pending) → All (λ p. within_reach (handle_at m p) p.since n ≡ true) (filter (λ p. not (lapses m n p)) ps)
+all_reached : (m : Meaning) (n : ℕ) (ps : List Pending) → AllByRecursion (λ p. within_reach (handle_at m p) p.since n ≡ true) (filter (λ p. not (lapses m n p)) ps)
 all_reached m n ps = All-weaker _ _ (λ p h. not-false _ (not-true _ h)) (filter (λ p. not (lapses m n p)) ps) (kept_by_passes (λ p. not (lapses m n p)) ps)
 
 module _ {m : Meaning} {s : State} (laws : Lawful m) (h : Holds m s) where
@@ -51,7 +51,7 @@ module _ {m : Meaning} {s : State} (laws : Lawful m) (h : Holds m s) where
       }
   held (takes {a = a} {e = e} l (by_answer {k} {v} st) short fits) =
       let b = (kept_by_steps (world_of m s) h.keeps.definitions_kept.sound).accounted st h.keeps.expression_kept.unbegun in
-      let none : All (λ p. within_reach (handle_at m p) p.since s.clock ≡ true) (made s.clock (suc s.issued) a) = rw (reply_begins k v refl st) tt in
+      let none : AllByRecursion (λ p. within_reach (handle_at m p) p.since s.clock ≡ true) (made s.clock (suc s.issued) a) = rw (reply_begins k v refl st) tt in
       record {
         keeps = kept laws h.keeps (takes l (by_answer st) short fits);
         known = simplified_passes _ _ _ e (known_step h.definitions_known st h.known).0;

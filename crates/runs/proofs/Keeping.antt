@@ -1,6 +1,6 @@
 -- What a state keeps by itself, every outcome keeps. Assumes nothing.
 use Rattle.std.proofs.Common.{◌≡◌, ℕ, suc, ◌+◌, ◌≤◌, Bool, true, false, cond, not, List, [], ◌∷◌, length, count_by, filter, refl, ap, ◌∙◌, arith, length-append}
-use Rattle.std.specs.List.{AllByRecursion as All}
+use Rattle.std.specs.List.{AllByRecursion}
 use Rattle.std.proofs.ByRecursion.{All-weaker, all_kept_by}
 use Rattle.std.proofs.lemmas.List.{length_push}
 use Rattle.std.proofs.lemmas.List.Sums.{count_by-le-length}
@@ -65,12 +65,12 @@ kept_simplified {ds} {n} {t} {e} m k =
     }
 
 -- the pending call that an act begins has the next ticket, and is made now
-next_issued : (t i : ℕ) (a : Act) → All (λ p. (1 ≤ p.ticket) × (p.ticket ≤ i + length (made t (suc i) a))) (made t (suc i) a)
+next_issued : (t i : ℕ) (a : Act) → AllByRecursion (λ p. (1 ≤ p.ticket) × (p.ticket ≤ i + length (made t (suc i) a))) (made t (suc i) a)
 next_issued t i (called s v) = ((omega arith, omega arith), tt)
 next_issued t i inner = tt
 next_issued t i (out w) = tt
 
-made_now : (t k : ℕ) (a : Act) → All (λ p. p.since ≤ t) (made t k a)
+made_now : (t k : ℕ) (a : Act) → AllByRecursion (λ p. p.since ≤ t) (made t k a)
 made_now t k (called s v) = (omega arith, tt)
 made_now t k inner = tt
 made_now t k (out w) = tt
@@ -197,7 +197,7 @@ pub goal_nothing_pending : (m : Meaning) (file : File) → WellFormed m file →
 goal_nothing_pending m file w = proper_nothing_pending m (length file.definitions) file.goal w.goal_proper
 
 -- what holds the bytes of definitions is no shorter than the form of each
-bodies_fit : (n : ℕ) (ds : List Definition) → length (definitions_bytes ds) ≤ n → All (λ d. size d.body ≤ n) ds
+bodies_fit : (n : ℕ) (ds : List Definition) → length (definitions_bytes ds) ≤ n → AllByRecursion (λ d. size d.body ≤ n) ds
 bodies_fit n [] h = tt
 bodies_fit n (d ∷ ds) h = let q = length-append (definition_bytes d) (definitions_bytes ds) in (omega arith, bodies_fit n ds (omega arith))
 

@@ -1,6 +1,6 @@
 -- What lasts over a history, and that a list of calls has exactly one. Assumes nothing.
 use Rattle.std.proofs.Common.{◌≡◌, true, false, ◌⊎◌, List, [], ◌∷◌, ◌++◌, Err, sym, refl, ap, ◌∙◌, subst₂, inl, inr, append_assoc}
-use Rattle.std.specs.List.{AllByRecursion as All}
+use Rattle.std.specs.List.{AllByRecursion}
 use Rattle.std.proofs.ByRecursion.{All-push}
 use Rattle.std.proofs.lemmas.List.{append-nil}
 use Rattle.std.proofs.lemmas.Bool.{both_ways}
@@ -89,7 +89,7 @@ only_not_loaded {m} {s} l (refuses x) = elim (refused_loaded x) [ inl q ↦ (ap 
 only_not_loaded {m} {s} l (takes l' t short fits) = absurd (both_ways s.loaded l l')
 only_not_loaded {m} {s} l (passes l' p near) = absurd (both_ways s.loaded l l')
 
-stays_unloaded : {m : Meaning} {s : State} {cs : List Call} {rs : List Response} → History m unloaded cs rs s → All (λ r. r ≡ Err NotLoaded) rs × (s ≡ unloaded)
+stays_unloaded : {m : Meaning} {s : State} {cs : List Call} {rs : List Response} → History m unloaded cs rs s → AllByRecursion (λ r. r ≡ Err NotLoaded) rs × (s ≡ unloaded)
 stays_unloaded start = (tt, refl)
 stays_unloaded (after {rs = rs} {r = r} h o) =
     let p = stays_unloaded h in

@@ -1,6 +1,6 @@
 -- Operands that pass their tests go on passing them: so they stay in range, and sites known. Assumes nothing.
 use Rattle.std.proofs.Common.{◌≡◌, ℕ, zero, suc, ◌≤◌, Bool, true, ◌&&◌, eqb, leb, List, [], ◌∷◌, length, Some, refl, subst, ⊎_elim, arith}
-use Rattle.std.specs.List.{AllByRecursion as All}
+use Rattle.std.specs.List.{AllByRecursion}
 use Rattle.std.proofs.ByRecursion.{All-append}
 use Rattle.std.proofs.lemmas.Bool.{and_parts, and_from, or_cases, leb-true, le-leb, ltb-true, cond_both}
 use Rattle.std.proofs.lemmas.Bool.Decides.{nat_tests}
@@ -16,7 +16,7 @@ use Rattle.orc.proofs.Simplifying.{by_parallel, by_sequential, by_pruning}
 use Rattle.runs.specs.Bounds.{parameter_passes, operands_pass, Ranged, Known}
 
 -- what a number leads to has what each element has
-all_entry : {X : Type 0} (P : X → Type 0) (xs : List X) (i : ℕ) (x : X) → All P xs → entry xs i ≡ Some x → P x
+all_entry : {X : Type 0} (P : X → Type 0) (xs : List X) (i : ℕ) (x : X) → AllByRecursion P xs → entry xs i ≡ Some x → P x
 all_entry P [] i x a h = let z : ◌≡◌ {A = ℕ} 0 1 = cc in absurd (omega arith)
 all_entry P (y ∷ ys) zero x a h = let z : y ≡ x = cc in subst P z a.0
 all_entry P (y ∷ ys) (suc i) x a h = all_entry P ys i x a.1 h
@@ -77,7 +77,7 @@ module _ (S X V : ℕ → Bool) where
   lapsed_passes m n (pending k s v c) r = cond_both (within_reach (handle m s v) c n) (pending k s v c) stop Passes (λ _. r) (λ _. refl)
 
   -- so do the operands of each pending call
-  pub pending_pass : (e : Expression) → Passes e → All (λ p. (S p.site ≡ true) × (V p.argument ≡ true)) (pending_calls e)
+  pub pending_pass : (e : Expression) → Passes e → AllByRecursion (λ p. (S p.site ≡ true) × (V p.argument ≡ true)) (pending_calls e)
   unfolding operands_pass pending_calls
   pending_pass stop r = tt
   pending_pass (site_call s p) r = tt
@@ -94,7 +94,7 @@ module _ (S X V : ℕ → Bool) where
   ActPasses (out w) = V w ≡ true
 
   -- A transition keeps that, if each reply to a value that passes does.
-  step_passes : {W : World} {t k : ℕ} {e e' : Expression} {l : Leaf} {a : Act} {gone : List Pending} → ((s v c w : ℕ) → V v ≡ true → can_reply (handle W.meaning s v) c t w ≡ true → V w ≡ true) → All (λ d. Passes d.body) W.definitions → Step W t k e l a gone e' → Passes e → Passes e' × ActPasses a
+  step_passes : {W : World} {t k : ℕ} {e e' : Expression} {l : Leaf} {a : Act} {gone : List Pending} → ((s v c w : ℕ) → V v ≡ true → can_reply (handle W.meaning s v) c t w ≡ true → V w ≡ true) → AllByRecursion (λ d. Passes d.body) W.definitions → Step W t k e l a gone e' → Passes e → Passes e' × ActPasses a
   unfolding operands_pass
   step_passes fits ds (calls {s} {v}) r = (r, and_parts (S s) (V v) r)
   step_passes {W} fits ds (unfolds {i} {v} d h) r = (substitute_passes v d.formal r d.body (all_entry (λ d. Passes d.body) W.definitions i d ds h), tt)
@@ -138,7 +138,7 @@ module _ (S X V : ℕ → Bool) where
       walk (pending k s v c) h = absurd (let z : ◌≡◌ {A = ℕ} 0 1 = cc in omega arith)
 
 -- a reply that a window admits is in range
-admitted_fits : (c n v : ℕ) (ws : List Window) → All SoundWindow ws → some (admits c n v) ws ≡ true → v ≤ 65535
+admitted_fits : (c n v : ℕ) (ws : List Window) → AllByRecursion SoundWindow ws → some (admits c n v) ws ≡ true → v ≤ 65535
 admitted_fits c n v [] a h = let z : ◌≡◌ {A = ℕ} 0 1 = cc in omega arith
 admitted_fits c n v (w ∷ ws) a h =
     ⊎_elim (λ q. let b = a.0.highest_fits in grind (arith, nat_tests)) (admitted_fits c n v ws a.1) (or_cases (admits c n v w) (some (admits c n v) ws) h)
@@ -154,10 +154,10 @@ RangedAct = ActPasses (λ s. leb s 31) (λ x. leb x 31) (λ v. leb v 65535)
 abbrev pub KnownAct : Meaning → Act → Type 0
 KnownAct m = ActPasses (λ s. is_known (m s)) (λ x. true) (λ v. true)
 
-pub ranged_step : {W : World} {t k : ℕ} {e e' : Expression} {l : Leaf} {a : Act} {gone : List Pending} → Lawful W.meaning → All (λ d. Ranged d.body) W.definitions → Step W t k e l a gone e' → Ranged e → Ranged e' × RangedAct a
+pub ranged_step : {W : World} {t k : ℕ} {e e' : Expression} {l : Leaf} {a : Act} {gone : List Pending} → Lawful W.meaning → AllByRecursion (λ d. Ranged d.body) W.definitions → Step W t k e l a gone e' → Ranged e → Ranged e' × RangedAct a
 ranged_step {W} {t} laws = step_passes _ _ _ (λ s v c w. replies_fit W.meaning laws s v c t w)
 
-pub known_step : {W : World} {t k : ℕ} {e e' : Expression} {l : Leaf} {a : Act} {gone : List Pending} → All (λ d. Known W.meaning d.body) W.definitions → Step W t k e l a gone e' → Known W.meaning e → Known W.meaning e' × KnownAct W.meaning a
+pub known_step : {W : World} {t k : ℕ} {e e' : Expression} {l : Leaf} {a : Act} {gone : List Pending} → AllByRecursion (λ d. Known W.meaning d.body) W.definitions → Step W t k e l a gone e' → Known W.meaning e → Known W.meaning e' × KnownAct W.meaning a
 known_step = step_passes _ _ _ (λ s v c w h r. refl)
 
 pub proper_ranged : (m : Meaning) (n : ℕ) (e : Expression) → proper m n e ≡ true → Ranged e

@@ -1,6 +1,6 @@
 -- What becomes of the pending calls when a call is made. Assumes nothing.
 use Rattle.std.proofs.Common.{◌≡◌, ℕ, ◌+◌, ◌<◌, ◌≤◌, Bool, true, false, not, eqb, leb, List, [], ◌∷◌, Decides, count_by, refl, ⊎_elim, arith}
-use Rattle.std.specs.List.{AllByRecursion as All}
+use Rattle.std.specs.List.{AllByRecursion}
 use Rattle.std.proofs.ByRecursion.{All-weaker}
 use Rattle.std.proofs.lemmas.Bool.{or_cases, or_left, or_right, le-leb, leb-true, ne_eqb, not_from_true}
 use Rattle.orc.specs.Meaning.{Window, Meaning, handle, reaches, some, within_reach, can_stand, is_known, Lawful}
@@ -11,7 +11,7 @@ use Rattle.orc.specs.Laws.{begun as made, Accounted}
 use Rattle.runs.proofs.Counts.{none_passes, all_pass}
 
 -- What holds of each pending call before a transition, and of the one that it begins, holds of each after it.
-pub carried : {W : World} {t k : ℕ} {e e' : Expression} {l : Leaf} {a : Act} {gone : List Pending} (f : Pending → Bool) (P : Pending → Type 0) → ((p : Pending) → Decides (f p) (P p)) → Accounted W t k e l a gone e' → All P (pending_calls e) → All P (made t k a) → All P (pending_calls e')
+pub carried : {W : World} {t k : ℕ} {e e' : Expression} {l : Leaf} {a : Act} {gone : List Pending} (f : Pending → Bool) (P : Pending → Type 0) → ((p : Pending) → Decides (f p) (P p)) → Accounted W t k e l a gone e' → AllByRecursion P (pending_calls e) → AllByRecursion P (made t k a) → AllByRecursion P (pending_calls e')
 carried {W} {t} {k} {e} {e'} {l} {a} f P d b old new =
     let fails : Pending → Bool = λ p. not (f p) in
     let none_old = none_passes fails (pending_calls e) (All-weaker P (λ p. fails p ≡ false) (λ p h. not_from_true (f p) ((d p).1 h)) (pending_calls e) old) in
@@ -26,11 +26,11 @@ pub decides_itself : (b : Bool) → Decides b (b ≡ true)
 decides_itself b = (λ h. h, λ h. h)
 
 -- no pending call has a ticket that has yet to be issued
-pub not_issued : (n k : ℕ) (ps : List Pending) → n < k → All (λ p. (1 ≤ p.ticket) × (p.ticket ≤ n)) ps → count_by (λ p. eqb k p.ticket) ps ≡ 0
+pub not_issued : (n k : ℕ) (ps : List Pending) → n < k → AllByRecursion (λ p. (1 ≤ p.ticket) × (p.ticket ≤ n)) ps → count_by (λ p. eqb k p.ticket) ps ≡ 0
 not_issued n k ps h a = none_passes (λ p. eqb k p.ticket) ps (All-weaker _ (λ p. eqb k p.ticket ≡ false) (λ p q. ne_eqb k p.ticket (λ z. omega arith)) ps a)
 
 -- A pending call that a window reaches can be unanswered.
-pub reached_stands : (m : Meaning) (n : ℕ) (ps : List Pending) → All (λ p. within_reach (handle_at m p) p.since n ≡ true) ps → All (λ p. can_stand (handle_at m p) p.since n ≡ true) ps
+pub reached_stands : (m : Meaning) (n : ℕ) (ps : List Pending) → AllByRecursion (λ p. within_reach (handle_at m p) p.since n ≡ true) ps → AllByRecursion (λ p. can_stand (handle_at m p) p.since n ≡ true) ps
 unfolding can_stand
 reached_stands m n ps a = All-weaker _ _ (λ p h. or_right (handle_at m p).silent _ h) ps a
 

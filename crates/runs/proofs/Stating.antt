@@ -1,6 +1,6 @@
 -- What a state keeps by itself, as tests and facts of each element. Assumes nothing.
 use Rattle.std.proofs.Common.{◌≡◌, eqb, List, [], ◌++◌, length, Decides, refl, ap}
-use Rattle.std.specs.List.{ContainsAt as Has, AllByRecursion as All}
+use Rattle.std.specs.List.{ContainsAt as Has, AllByRecursion}
 use Rattle.std.proofs.ByRecursion.{All-weaker, all-has, all_has_itself}
 use Rattle.std.proofs.lemmas.List.{nil_from_length}
 use Rattle.std.proofs.lemmas.Bool.{eqb-true, eq-eqb}
@@ -38,7 +38,7 @@ decides_numbers ds (pruning x f g) = Decides-and _ _ (decides_numbers ds f) (dec
 decides_numbers ds (pending k s v c) = (λ h. tt, λ h. refl)
 
 -- what each element has that the list has, all have
-all_from_has : {X : Type 0} (P : X → Type 0) (xs : List X) → ((x : X) → Has xs x → P x) → All P xs
+all_from_has : {X : Type 0} (P : X → Type 0) (xs : List X) → ((x : X) → Has xs x → P x) → AllByRecursion P xs
 all_from_has P xs h = All-weaker (Has xs) P h xs (all_has_itself xs)
 
 pub facts_of : {s : State} → Keeps s → Facts s

@@ -1,6 +1,6 @@
 -- What every state of a run keeps. Assumes nothing.
 use Rattle.std.specs.Prelude.{◌≡◌, ℕ, ◌+◌, ◌≤◌, Bool, true, ◌&&◌, List, length, nat_le}
-use Rattle.std.specs.List.{AllByRecursion as All}
+use Rattle.std.specs.List.{AllByRecursion}
 use Rattle.orc.specs.Meaning.{Meaning, is_known, within_reach}
 use Rattle.orc.specs.Expressions.{Parameter, value, variable, Expression, stop, site_call, definition_call, parallel, sequential, pruning, pending, size, Definition}
 use Rattle.orc.specs.Simplified.{simplified}
@@ -37,8 +37,8 @@ Known m e = operands_pass (λ s. is_known (m s)) (λ x. true) (λ v. true) e ≡
 -- What the definitions keep. They stood in one file of at most 4,096 bytes.
 pub record KeptDefinitions (ds : List Definition) : Type 0 where
   pub sound : SoundDefinitions ds
-  pub ranged : All (λ d. Ranged d.body) ds
-  pub fit : All (λ d. size d.body ≤ 4096) ds
+  pub ranged : AllByRecursion (λ d. Ranged d.body) ds
+  pub fit : AllByRecursion (λ d. size d.body ≤ 4096) ds
 
 -- What an expression keeps over these definitions, with so many tickets issued, at this clock.
 pub record KeptExpression (ds : List Definition) (issued clock : ℕ) (e : Expression) : Type 0 where
@@ -49,8 +49,8 @@ pub record KeptExpression (ds : List Definition) (issued clock : ℕ) (e : Expre
   pub closed : Closed e
   pub ranged : Ranged e
   -- each pending call has a ticket that was issued, and was made no later than now
-  pub tickets_issued : All (λ p. (1 ≤ p.ticket) × (p.ticket ≤ issued)) (pending_calls e)
-  pub made_before : All (λ p. p.since ≤ clock) (pending_calls e)
+  pub tickets_issued : AllByRecursion (λ p. (1 ≤ p.ticket) × (p.ticket ≤ issued)) (pending_calls e)
+  pub made_before : AllByRecursion (λ p. p.since ≤ clock) (pending_calls e)
 
 -- What a state keeps by itself, whatever its sites may reply.
 pub record Keeps (s : State) : Type 0 where
@@ -73,5 +73,5 @@ pub record Keeps (s : State) : Type 0 where
 pub record Holds (m : Meaning) (s : State) : Type 0 where
   pub keeps : Keeps s
   pub known : Known m s.expression
-  pub definitions_known : All (λ d. Known m d.body) s.definitions
-  pub within_reach_now : All (λ p. within_reach (handle_at m p) p.since s.clock ≡ true) (pending_calls s.expression)
+  pub definitions_known : AllByRecursion (λ d. Known m d.body) s.definitions
+  pub within_reach_now : AllByRecursion (λ p. within_reach (handle_at m p) p.since s.clock ≡ true) (pending_calls s.expression)

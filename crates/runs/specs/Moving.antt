@@ -1,6 +1,6 @@
 -- What it means that each call has one outcome, and that whatever can happen can be made to happen. Assumes nothing.
 use Rattle.std.specs.Prelude.{◌≡◌, ℕ, suc, ◌+◌, false, ◌⊎◌, List, Ok, Err}
-use Rattle.std.specs.List.{AllByRecursion as All}
+use Rattle.std.specs.List.{AllByRecursion}
 use Rattle.orc.specs.Meaning.{Meaning}
 use Rattle.orc.specs.Expressions.{Expression}
 use Rattle.orc.specs.Calls.{Pending}
@@ -46,4 +46,4 @@ CanBeWaited m s = (d : ℕ) → Pass (world_of m s) s.clock (s.clock + d) s.expr
 pub record NotLoadedStays (m : Meaning) : Type 0 where
   pub refused : (s : State) → s.loaded ≡ false → (c : Call) → Outcome m s c (Err NotLoaded) s
   pub only : {s s' : State} {c : Call} {r : Response} → s.loaded ≡ false → Outcome m s c r s' → (r ≡ Err NotLoaded) × (s' ≡ s)
-  pub throughout : {cs : List Call} {rs : List Response} {s : State} → History m unloaded cs rs s → All (λ r. r ≡ Err NotLoaded) rs × (s ≡ unloaded)
+  pub throughout : {cs : List Call} {rs : List Response} {s : State} → History m unloaded cs rs s → AllByRecursion (λ r. r ≡ Err NotLoaded) rs × (s ≡ unloaded)

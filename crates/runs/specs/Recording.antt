@@ -1,6 +1,6 @@
 -- What it means that a history records a timed trace, or follows it up to a limit. Assumes nothing.
 use Rattle.std.specs.Prelude.{◌≡◌, ℕ, ◌+◌, ◌<◌, true, List, [], ◌∷◌, ◌++◌, map, Ok, Err}
-use Rattle.std.specs.List.{AllByRecursion as All}
+use Rattle.std.specs.List.{AllByRecursion}
 use Rattle.orc.specs.Meaning.{Meaning}
 use Rattle.orc.specs.Expressions.{Expression}
 use Rattle.orc.specs.Calls.{Pending}
@@ -36,8 +36,8 @@ pub record Reached (m : Meaning) (file : File) (s : State) : Type 0 where
   pub calls : List Call
   pub responses : List Response
   pub history : History m (begun file) calls responses s
-  pub accepted : All (λ r. r ≡ Ok tt) responses
-  pub in_range : All InRange calls
+  pub accepted : AllByRecursion (λ r. r ≡ Ok tt) responses
+  pub in_range : AllByRecursion InRange calls
 
 -- The events es and the end n are recorded: a run comes to a state with exactly these events, and this clock.
 pub record Recorded (m : Meaning) (file : File) (es : List Entry) (n : ℕ) : Type 0 where

@@ -7,7 +7,7 @@ use Rattle.std.proofs.lemmas.Str.Parse.{numerals_by_value, tells_all_ascii_digit
 use Rattle.std.proofs.lemmas.Bool.Decides.{nat_tests}
 use Rattle.std.specs.Int.{IsInRange}
 use Rattle.std.specs.Char.{is_ascii_whitespace}
-use Rattle.std.specs.List.{AllByRecursion as All}
+use Rattle.std.specs.List.{AllByRecursion}
 use Rattle.std.specs.Str.{bytes_eq}
 use Rattle.runs.specs.declared.call.Call.{Call}
 use Rattle.runs.specs.declared.call.Call.TheVariants.{Go, Answer, Wait}
@@ -99,7 +99,7 @@ only_one ws o p a b = says_meant ws o a ∙ sym (says_meant ws p b)
 digit_is_dark : (c : ℕ) → IsInRange 48 57 c → is_ascii_whitespace c ≡ false
 digit_is_dark c digit = grind (arith, nat_tests)
 
-decimal_is_dark : (n : ℕ) → n < 2 ^ 64 → All Dark (decimal n)
+decimal_is_dark : (n : ℕ) → n < 2 ^ 64 → AllByRecursion Dark (decimal n)
 decimal_is_dark n small = All-from_get_or Dark (decimal n) 0 (λ i h. digit_is_dark (get_or (decimal n) i 0) (digit_at (decimal n) i (decimal_is_IsNumeral n small).0.1 h))
 
 words_of_number : (n : ℕ) (rest : List ℕ) → n < 2 ^ 64 → opens rest ≡ false → words (32 ∷ (decimal n ++ rest)) ≡ decimal n ∷ words rest

@@ -3,11 +3,11 @@ use Rattle.std.proofs.Common.{◌≡◌, ℕ, zero, suc, ◌+◌, ◌<◌, Bool,
 use Rattle.std.proofs.lemmas.List.{get_or-take, get_or-drop, length-take-le, take-append-drop}
 use Rattle.std.proofs.ByRecursion.{All-from_get_or}
 use Rattle.std.specs.Char.{is_ascii_whitespace}
-use Rattle.std.specs.List.{AllByRecursion as All}
+use Rattle.std.specs.List.{AllByRecursion}
 use Rattle.scripts.specs.Words.{words, opens, onto, Dark}
 
 -- white space in front of a line does not count
-pub words_of_gap : (gap rest : List ℕ) → All (λ c. is_ascii_whitespace c ≡ true) gap → words (gap ++ rest) ≡ words rest
+pub words_of_gap : (gap rest : List ℕ) → AllByRecursion (λ c. is_ascii_whitespace c ≡ true) gap → words (gap ++ rest) ≡ words rest
 unfolding words
 words_of_gap [] rest white = refl
 words_of_gap (c ∷ cs) rest white = simp white.0 (words_of_gap cs rest white.1)
@@ -22,19 +22,19 @@ unfolding words
 before_a_gap c cs dark off = simp (dark, off)
 
 -- bytes with no white space, and then none or white space, are a word
-pub words_of_front : (c : ℕ) (cs rest : List ℕ) → All Dark (c ∷ cs) → opens rest ≡ false → words ((c ∷ cs) ++ rest) ≡ (c ∷ cs) ∷ words rest
+pub words_of_front : (c : ℕ) (cs rest : List ℕ) → AllByRecursion Dark (c ∷ cs) → opens rest ≡ false → words ((c ∷ cs) ++ rest) ≡ (c ∷ cs) ∷ words rest
 words_of_front c [] rest dark ends = before_a_gap c rest dark.0 ends
 words_of_front c (d ∷ ds) rest dark ends =
     before_a_word c ((d ∷ ds) ++ rest) dark.0 (ap not dark.1.0) ∙ ap (onto c) (words_of_front d ds rest dark.1 ends)
 
-pub words_from_front : (w rest : List ℕ) → 0 < length w → All Dark w → opens rest ≡ false → words (w ++ rest) ≡ w ∷ words rest
+pub words_from_front : (w rest : List ℕ) → 0 < length w → AllByRecursion Dark w → opens rest ≡ false → words (w ++ rest) ≡ w ∷ words rest
 words_from_front [] rest some dark ends = absurd (omega arith)
 words_from_front (c ∷ cs) rest some dark ends = words_of_front c cs rest dark ends
 
 -- nor where it was trimmed
 pub words_of_trimmed : (bs t : List ℕ) (n : ℕ) → t ≡ drop n bs → length t + n ≡ length bs → ((i : ℕ) → i < n → is_ascii_whitespace (get_or bs i 0) ≡ true) → words bs ≡ words t
 words_of_trimmed bs t n is long white =
-    let all : All (λ c. is_ascii_whitespace c ≡ true) (take n bs) = All-from_get_or (λ c. is_ascii_whitespace c ≡ true) (take n bs) 0 (λ i h. getD_white i (omega (arith, length-take-le n bs (omega arith)))) in
+    let all : AllByRecursion (λ c. is_ascii_whitespace c ≡ true) (take n bs) = All-from_get_or (λ c. is_ascii_whitespace c ≡ true) (take n bs) 0 (λ i h. getD_white i (omega (arith, length-take-le n bs (omega arith)))) in
     ap words (sym (take-append-drop n bs)) ∙ (words_of_gap (take n bs) (drop n bs) all ∙ ap words (sym is))
   where
     getD_white : (i : ℕ) → i < n → is_ascii_whitespace (get_or (take n bs) i 0) ≡ true
@@ -52,7 +52,7 @@ starts_dark bs t n is long dark some =
     ap (λ (l : List ℕ). is_ascii_whitespace (get_or l 0 0)) is ∙ (ap is_ascii_whitespace (get_or-drop n bs 0 0 ∙ ap (λ (k : ℕ). get_or bs k 0) (add-zero n)) ∙ dark (omega arith))
 
 -- a text that begins with no white space begins with a word
-pub first_word : (text : List ℕ) (n : ℕ) (w rest : List ℕ) → w ≡ take n text → rest ≡ drop n text → (0 < length text → is_ascii_whitespace (get_or text 0 0) ≡ false) → 0 < length text → All Dark (take n text) → opens (drop n text) ≡ false → (0 < length w) × (words text ≡ w ∷ words rest)
+pub first_word : (text : List ℕ) (n : ℕ) (w rest : List ℕ) → w ≡ take n text → rest ≡ drop n text → (0 < length text → is_ascii_whitespace (get_or text 0 0) ≡ false) → 0 < length text → AllByRecursion Dark (take n text) → opens (drop n text) ≡ false → (0 < length w) × (words text ≡ w ∷ words rest)
 first_word [] n w rest w-is rest-is starts some dark ends = absurd (omega arith)
 first_word (c ∷ cs) zero w rest w-is rest-is starts some dark ends = absurd (not_both (is_ascii_whitespace c) (starts some) ends)
   where

@@ -1,6 +1,6 @@
 // The words of a line: what stands between white space.
 ghost use Rattle.std.specs.Prelude.{◌≡◌, ◌<◌, ◌≤◌, false, [], ◌∷◌, length, take, drop, MatchOption};
-ghost use Rattle.std.specs.List.{AllByRecursion as All};
+ghost use Rattle.std.specs.List.{AllByRecursion};
 ghost use Rattle.scripts.specs.Words.{words, opens, Dark};
 
 // The first word and what follows it, or none where there is white space alone.
@@ -17,7 +17,7 @@ pub(crate) fn next_word(bytes: &[u8]) -> Option<(&[u8], &[u8])>
 // How many bytes stand before the first white space.
 fn word_end(text: &[u8]) -> usize
     ensures within { result ≤ length text.now }
-    ensures front { All Dark (take result text.now) }
+    ensures front { AllByRecursion Dark (take result text.now) }
     ensures back { opens (drop result text.now) ≡ false }
 {
     for (i, byte) in text.iter().enumerate() {

@@ -1,6 +1,6 @@
 -- Calls made and replies taken in the bytes of a form are transitions, and there is room for them. Assumes nothing.
 use Rattle.std.proofs.Common.{◌≡◌, ℕ, zero, suc, ◌+◌, ◌-◌, ◌<◌, ◌≤◌, true, false, not, eqb, List, [], ◌∷◌, ◌++◌, length, drop, IfSome, Some, None, filter, Option, sym, refl, ap, ◌∙◌, subst, arith}
-use Rattle.std.specs.List.{between, AllByRecursion as All}
+use Rattle.std.specs.List.{between, AllByRecursion}
 use Rattle.std.proofs.lemmas.List.{length-append, length-take, length-drop, drop_at}
 use Rattle.std.proofs.lemmas.Bool.{le-leb}
 use Rattle.orc.specs.Meaning.{known, no_end, handle, can_reply}
@@ -37,7 +37,7 @@ spliced_length : (bs : List ℕ) (at end : ℕ) (new : List ℕ) → at ≤ end 
 spliced_length bs at end new ordered within = simp (length-append, length-take, length-drop) (omega arith)
 
 -- the definition of a number in the list
-entry_there : (P : Definition → Type 0) (ds : List Definition) (i : ℕ) → i < length ds → All P ds → (d : Definition) × (entry ds i ≡ Some d) × P d
+entry_there : (P : Definition → Type 0) (ds : List Definition) (i : ℕ) → i < length ds → AllByRecursion P ds → (d : Definition) × (entry ds i ≡ Some d) × P d
 entry_there P [] i within all = absurd (omega arith)
 entry_there P (d ∷ ds) zero within all = (d, refl, all.0)
 entry_there P (d ∷ ds) (suc i) within all = entry_there P ds i (omega arith) all.1
@@ -60,7 +60,7 @@ read_there e rest = ap (λ r. r.expression) (bytes_read e (length (bytes e ++ re
 abbrev CanBeMade : List Definition → ℕ → ℕ → List ℕ → ℕ → Type 0
 CanBeMade ds t k bs p = (a : Act) × (bs' : List ℕ) × Made ds t k bs p a bs' × (length bs' ≤ capacity)
 
-module _ (ds : List Definition) (t k : ℕ) (bs : List ℕ) (p : ℕ) (few : length bs ≤ 4096) (small : All (λ d. size d.body ≤ 4096) ds) where
+module _ (ds : List Definition) (t k : ℕ) (bs : List ℕ) (p : ℕ) (few : length bs ≤ 4096) (small : AllByRecursion (λ d. size d.body ≤ 4096) ds) where
   of_call : (e : Expression) → e ≡ expression_of (drop p bs) → IsDue e → NumbersWithin ds e → CanBeMade ds t k bs p
   unfolding NumbersWithin bytes
   of_call (site_call s (value v)) is now numbers =

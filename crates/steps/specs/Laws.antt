@@ -1,7 +1,7 @@
 -- What is proved of calls made and replies taken in the bytes of a form: each is a transition, and there is room for it.
 -- Assumes nothing.
 use Rattle.std.specs.Prelude.{◌≡◌, ℕ, ◌≤◌, true, not, List, [], length, drop, Some, None, filter, Option, ◌==◌}
-use Rattle.std.specs.List.{AllByRecursion as All}
+use Rattle.std.specs.List.{AllByRecursion}
 use Rattle.orc.specs.Meaning.{Meaning, handle, can_reply}
 use Rattle.orc.specs.Expressions.{pending, Definition, World, size}
 use Rattle.orc.specs.Calls.{Pending, pending_calls, RightsUnbegun}
@@ -30,7 +30,7 @@ MadeCallsAreTransitions =
 abbrev pub DueCallsCanBeMade : Type 0
 DueCallsCanBeMade =
     (bs : List ℕ) (n p : ℕ) (ds : List Definition) (t k : ℕ) → IsForm bs → length bs ≤ 4096 → due_place n (expression_of bs) ≡ Some p →
-    NumbersWithin ds (expression_of bs) → All (λ d. size d.body ≤ 4096) ds →
+    NumbersWithin ds (expression_of bs) → AllByRecursion (λ d. size d.body ≤ 4096) ds →
     (a : Act) × (bs' : List ℕ) × Made ds t k bs p a bs' × (length bs' ≤ capacity)
 
 -- the pending calls that a reply to ticket j withdraws: those of the stretch that ends with it, but for the call itself

@@ -1,6 +1,6 @@
 // Due calls, made where they stand in a form.
 ghost use Rattle.std.specs.Prelude.{◌≡◌, ℕ, ◌+◌, ◌^◌, ◌<◌, List, length, drop, MatchOption};
-ghost use Rattle.orc.specs.Expressions.{Definition as Defined, value, site_call, definition_call, pending, bytes as form-bytes};
+ghost use Rattle.orc.specs.Expressions.{Definition as Defined, value, site_call, definition_call, pending, bytes as form_bytes};
 ghost use Rattle.forms.specs.Reading.{expression_of};
 ghost use Rattle.forms.specs.Heads.{parameter_of};
 ghost use Rattle.files.specs.Contents.{file_of};
@@ -22,7 +22,7 @@ const CALL_WIDTH: usize = 5;
 
 // The form of a pending call.
 fn pending_form(ticket: u32, site: u8, value: u16, clock: u32) -> [u8; 12]
-    ensures { result ≡ form-bytes (pending ticket site value clock) }
+    ensures { result ≡ form_bytes (pending ticket site value clock) }
 {
     let k = ticket.to_be_bytes();
     let v = value.to_be_bytes();

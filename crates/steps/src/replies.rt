@@ -1,7 +1,7 @@
 // Replies to pending calls, taken where these stand in a form.
 ghost use Rattle.std.specs.Prelude.{◌≡◌, ◌+◌, ◌≤◌, ◌∷◌, ◌++◌, length, Some, None, MatchOption};
 ghost use Rattle.std.specs.List.{between};
-ghost use Rattle.orc.specs.Expressions.{Expression, sequential as sequential_of, pruning as pruning_of, bytes as form-bytes};
+ghost use Rattle.orc.specs.Expressions.{Expression, sequential as sequential_of, pruning as pruning_of, bytes as form_bytes};
 ghost use Rattle.orc.specs.Variables.{substitute};
 ghost use Rattle.forms.specs.Heads.{expression, IsForm};
 ghost use Rattle.places.specs.Frames.{nearest_frame};
@@ -69,7 +69,7 @@ fn with_copy(
 ) -> Result<Buffer, Full>
     requires { (sequential.at ≤ call.at) × (call.at ≤ call.end) × (call.end ≤ sequential.end) × (sequential.end ≤ length form.bytes.now) }
     ensures { Built result (spliced form.entry.bytes.now sequential.at sequential.end
-        (3 ∷ (between sequential.at call.at form.entry.bytes.now ++ (0 ∷ (between call.end sequential.end form.entry.bytes.now ++ form-bytes (substitute value variable (expression right.entry))))))) }
+        (3 ∷ (between sequential.at call.at form.entry.bytes.now ++ (0 ∷ (between call.end sequential.end form.entry.bytes.now ++ form_bytes (substitute value variable (expression right.entry))))))) }
 {
     let bytes = form.as_bytes();
     let Stretch { at, end } = sequential;

@@ -1,6 +1,6 @@
 // A form with one stretch of its bytes replaced, built in fixed memory.
 ghost use Rattle.std.specs.Prelude.{◌≤◌, length};
-ghost use Rattle.orc.specs.Expressions.{bytes as form-bytes};
+ghost use Rattle.orc.specs.Expressions.{bytes as form_bytes};
 ghost use Rattle.orc.specs.Variables.{substitute};
 ghost use Rattle.forms.specs.Heads.{expression};
 ghost use Rattle.places.specs.Splices.{spliced};
@@ -34,7 +34,7 @@ pub(crate) fn with_form(
     variable: u8,
 ) -> Result<Buffer, Full>
     requires { (stretch.at ≤ stretch.end) × (stretch.end ≤ length form.bytes.now) }
-    ensures { Built result (spliced form.entry.bytes.now stretch.at stretch.end (form-bytes (substitute value variable (expression new.entry)))) }
+    ensures { Built result (spliced form.entry.bytes.now stretch.at stretch.end (form_bytes (substitute value variable (expression new.entry)))) }
 {
     let bytes = form.as_bytes();
     let Stretch { at, end } = stretch;

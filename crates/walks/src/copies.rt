@@ -1,6 +1,6 @@
 // Forms written anew: as they are, or with a value for a variable.
 ghost use Rattle.std.specs.Prelude.{◌≡◌, ◌+◌, ◌≤◌, ◌++◌, length};
-ghost use Rattle.orc.specs.Expressions.{bytes as form-bytes, size};
+ghost use Rattle.orc.specs.Expressions.{bytes as form_bytes, size};
 ghost use Rattle.orc.specs.Variables.{substitute};
 ghost use Rattle.forms.specs.Heads.{expression, parameter_of};
 ghost use Rattle.walks.specs.Capacity.{capacity};
@@ -38,7 +38,7 @@ fn changed_parameter(change: Option<Change>, parameter: Parameter) -> Parameter
 // Writes a form for which there is room, with a change or none.
 pub(crate) fn put(out: &mut Buffer, form: Form, change: Option<Change>)
     requires { length (content out.old) + size (expression form) ≤ capacity }
-    ensures content { content out.new ≡ content out.old ++ form-bytes (changed change (expression form.entry)) }
+    ensures content { content out.new ≡ content out.old ++ form_bytes (changed change (expression form.entry)) }
     ensures len { length (content out.new) ≡ length (content out.old) + size (expression form.entry) }
 {
     match head_of(form) {
@@ -81,7 +81,7 @@ pub(crate) fn put(out: &mut Buffer, form: Form, change: Option<Change>)
 
 // The same, if there is room.
 fn put_if_room(out: &mut Buffer, form: Form, change: Option<Change>) -> Result<(), Full>
-    ensures { Writes out.old out.new result (size (expression form.entry)) (form-bytes (changed change (expression form.entry))) }
+    ensures { Writes out.old out.new result (size (expression form.entry)) (form_bytes (changed change (expression form.entry))) }
 {
     if !has_room(out, form) {
         return Err(Full);
@@ -92,7 +92,7 @@ fn put_if_room(out: &mut Buffer, form: Form, change: Option<Change>) -> Result<(
 
 // Writes a form as it is.
 pub fn copy_into(form: Form, out: &mut Buffer) -> Result<(), Full>
-    ensures { Writes out.old out.new result (size (expression form.entry)) (form-bytes (expression form.entry)) }
+    ensures { Writes out.old out.new result (size (expression form.entry)) (form_bytes (expression form.entry)) }
 {
     put_if_room(out, form, None)
 }
@@ -100,7 +100,7 @@ pub fn copy_into(form: Form, out: &mut Buffer) -> Result<(), Full>
 // Writes a form with a value for each free place of a variable. A part in which the variable is bound again is written as
 // it is. The result is as long as the form.
 pub fn substitute_into(form: Form, value: u16, variable: u8, out: &mut Buffer) -> Result<(), Full>
-    ensures { Writes out.old out.new result (size (expression form.entry)) (form-bytes (substitute value variable (expression form.entry))) }
+    ensures { Writes out.old out.new result (size (expression form.entry)) (form_bytes (substitute value variable (expression form.entry))) }
 {
     put_if_room(out, form, Some(Change { variable, value }))
 }

@@ -1,6 +1,6 @@
 // The commands of a form with their operands, written behind what a buffer holds.
 ghost use Rattle.std.specs.Prelude.{◌≡◌, ◌+◌, ◌≤◌, ◌∷◌, ◌++◌, length};
-ghost use Rattle.orc.specs.Expressions.{pending, parameter_bytes, bytes as form-bytes};
+ghost use Rattle.orc.specs.Expressions.{pending, parameter_bytes, bytes as form_bytes};
 ghost use Rattle.forms.specs.Heads.{parameter_of};
 ghost use Rattle.walks.specs.Capacity.{capacity};
 ghost use Rattle.walks.specs.Contents.{content};
@@ -40,7 +40,7 @@ pub(crate) fn put_call(out: &mut Buffer, command: u8, number: u8, parameter: Par
 pub(crate) fn put_pending(out: &mut Buffer, ticket: u32, site: u8, value: u16, clock: u32)
     requires { length (content out.old) + 12 ≤ capacity }
     ensures len { length (content out.new) ≡ length (content out.old) + 12 }
-    ensures content { content out.new ≡ content out.old ++ form-bytes (pending ticket site value clock) }
+    ensures content { content out.new ≡ content out.old ++ form_bytes (pending ticket site value clock) }
 {
     let k = ticket.to_be_bytes();
     let v = value.to_be_bytes();

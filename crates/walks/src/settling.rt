@@ -1,6 +1,6 @@
 // Forms simplified as they are written, and pending calls ended that no window reaches.
 ghost use Rattle.std.specs.Prelude.{◌≡◌, ℕ, ◌+◌, ◌<◌, ◌≤◌, false, List, ◌++◌, length};
-ghost use Rattle.orc.specs.Expressions.{Expression, parallel, pruning, bytes as form-bytes, size};
+ghost use Rattle.orc.specs.Expressions.{Expression, parallel, pruning, bytes as form_bytes, size};
 ghost use Rattle.orc.specs.Simplified.{is_stop, parallel_of, pruning_of, simplified};
 ghost use Rattle.orc.specs.Calls.{lapsed};
 ghost use Rattle.forms.specs.Heads.{expression};
@@ -19,7 +19,7 @@ use hosts::host::Host;
 // Whether the form that stands last in a buffer, from an offset on, is stop: no other begins with its command.
 fn stops_from(out: &Buffer, at: usize) -> bool
     requires { at < length (content out.now) }
-    ensures { (o : List ℕ) (e : Expression) → length o ≡ at → content out.now ≡ o ++ form-bytes e → result ≡ is_stop e }
+    ensures { (o : List ℕ) (e : Expression) → length o ≡ at → content out.now ≡ o ++ form_bytes e → result ≡ is_stop e }
 {
     out.bytes[at] == STOP
 }
@@ -28,7 +28,7 @@ fn stops_from(out: &Buffer, at: usize) -> bool
 // the right it becomes its left part. Its left part is not stop.
 fn close_parallel(out: &mut Buffer, start: usize, middle: usize)
     requires { (start + 1 < middle) × (middle < length (content out.old)) }
-    ensures content { (o : List ℕ) (f g : Expression) → length o ≡ start → length o + 1 + size f ≡ middle → is_stop f ≡ false → content out.old ≡ o ++ form-bytes (parallel f g) → content out.new ≡ o ++ form-bytes (parallel_of f g) }
+    ensures content { (o : List ℕ) (f g : Expression) → length o ≡ start → length o + 1 + size f ≡ middle → is_stop f ≡ false → content out.old ≡ o ++ form_bytes (parallel f g) → content out.new ≡ o ++ form_bytes (parallel_of f g) }
     ensures within { (start < length (content out.new)) × (length (content out.new) ≤ length (content out.old)) }
 {
     if stops_from(out, middle) {
@@ -40,7 +40,7 @@ fn close_parallel(out: &mut Buffer, start: usize, middle: usize)
 // variable is not free there.
 fn close_pruning(out: &mut Buffer, variable: u8, start: usize, middle: usize)
     requires { (start + 2 < middle) × (middle < length (content out.old)) }
-    ensures content { (o : List ℕ) (f g : Expression) → length o ≡ start → length o + 2 + size f ≡ middle → content out.old ≡ o ++ form-bytes (pruning variable f g) → content out.new ≡ o ++ form-bytes (pruning_of variable f g) }
+    ensures content { (o : List ℕ) (f g : Expression) → length o ≡ start → length o + 2 + size f ≡ middle → content out.old ≡ o ++ form_bytes (pruning variable f g) → content out.new ≡ o ++ form_bytes (pruning_of variable f g) }
     ensures within { (start < length (content out.new)) × (length (content out.new) ≤ length (content out.old)) }
 {
     if !stops_from(out, middle) {
@@ -55,7 +55,7 @@ fn close_pruning(out: &mut Buffer, variable: u8, start: usize, middle: usize)
 // Writes a form for which there is room, lapsed at a tick and simplified.
 fn settle<H: Host>(out: &mut Buffer, host: &H, form: Form, tick: u64)
     requires { length (content out.old) + size (expression form) ≤ capacity }
-    ensures content { content out.new ≡ content out.old ++ form-bytes (simplified (lapsed (H.Host.meaning host.now) tick (expression form.entry))) }
+    ensures content { content out.new ≡ content out.old ++ form_bytes (simplified (lapsed (H.Host.meaning host.now) tick (expression form.entry))) }
     ensures within { (length (content out.old) < length (content out.new)) × (length (content out.new) ≤ length (content out.old) + size (expression form.entry)) }
 {
     let start = out.len();
@@ -110,7 +110,7 @@ fn settle<H: Host>(out: &mut Buffer, host: &H, form: Form, tick: u64)
 // becomes stop, and a pruning with a stop on the right becomes its left part, if its variable is not free there. The room
 // that is asked for is that of the form as it is.
 pub fn settle_into<H: Host>(host: &H, form: Form, tick: u64, out: &mut Buffer) -> Result<(), Full>
-    ensures { Writes out.old out.new result (size (expression form.entry)) (form-bytes (simplified (lapsed (H.Host.meaning host.now) tick (expression form.entry)))) }
+    ensures { Writes out.old out.new result (size (expression form.entry)) (form_bytes (simplified (lapsed (H.Host.meaning host.now) tick (expression form.entry)))) }
 {
     if !has_room(out, form) {
         return Err(Full);
@@ -121,7 +121,7 @@ pub fn settle_into<H: Host>(host: &H, form: Form, tick: u64, out: &mut Buffer) -
 
 // Writes a form simplified, with every pending call left. The room that is asked for is that of the form as it is.
 pub fn simplify_into(form: Form, out: &mut Buffer) -> Result<(), Full>
-    ensures { Writes out.old out.new result (size (expression form.entry)) (form-bytes (simplified (expression form.entry))) }
+    ensures { Writes out.old out.new result (size (expression form.entry)) (form_bytes (simplified (expression form.entry))) }
 {
     settle_into(&Endless, form, 0, out)
 }

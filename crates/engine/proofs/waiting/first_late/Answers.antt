@@ -1,5 +1,5 @@
 use Rattle.std.proofs.Common.{◌≡◌, false, not, sym, refl, ap, ◌∙◌, subst}
-use Rattle.std.specs.List.{AllByRecursion as All}
+use Rattle.std.specs.List.{AllByRecursion}
 use Rattle.places.specs.Scans.{pendings_from}
 use Rattle.places.specs.Tickets.{pending_of}
 use Rattle.places.proofs.Placing.{pendings_are_all}
@@ -27,4 +27,4 @@ pub returns : goal.returns
 returns g c =
     let test = late (g.H.Host.meaning c.args.host.now) c.args.tick in
     let bs = c.args.form.bytes.now in
-    subst (All (λ p. test p ≡ false)) (pendings_are_all bs c.requires) (none_found test (pendings_from bs 0) (pendings_from bs c.loop-next.at) c.in-default.ensures.next c.loop-next.invariant)
+    subst (AllByRecursion (λ p. test p ≡ false)) (pendings_are_all bs c.requires) (none_found test (pendings_from bs 0) (pendings_from bs c.loop-next.at) c.in-default.ensures.next c.loop-next.invariant)

@@ -8,18 +8,18 @@ use Rattle.forms.proofs.exact.expression_form.Goals as goal
 pub loop-open-init : goal.loop-open-init
 loop-open-init c = starts
 
-pub returns-in-err-command : goal.returns-in-err-command
-returns-in-err-command c = rw c.from_residual.ensures (nothing_begins c.loop-open.invariant (omega arith) c.in-err-command.ensures)
+pub returns-in_err-command : goal.returns-in_err-command
+returns-in_err-command c = rw c.from_residual.ensures (nothing_begins c.loop-open.invariant (omega arith) c.in_err-command.ensures)
 
-pub loop-open-preserved-then-is-split : goal.loop-open-preserved-then-is-split
-loop-open-preserved-then-is-split c =
-    let command = c.in-ok-command.ensures in
-    over_split c.loop-open.invariant (omega arith) (λ i. (c.type_inv.bytes i).fits) _ _ command.0 command.1 c.width-at.ensures (sym c.if-is-split.ensures)
+pub loop-open-preserved-then-is_split : goal.loop-open-preserved-then-is_split
+loop-open-preserved-then-is_split c =
+    let command = c.in_ok-command.ensures in
+    over_split c.loop-open.invariant (omega arith) (λ i. (c.type_inv.bytes i).fits) _ _ command.0 command.1 c.width-at.ensures (sym c.if-is_split.ensures)
 
 pub loop-open-preserved : goal.loop-open-preserved
 loop-open-preserved c =
-    let command = c.in-ok-command.ensures in
-    over_leaf c.loop-open.invariant (omega arith) (λ i. (c.type_inv.bytes i).fits) _ _ command.0 command.1 c.width-at.ensures (sym c.if-is-split.ensures)
+    let command = c.in_ok-command.ensures in
+    over_leaf c.loop-open.invariant (omega arith) (λ i. (c.type_inv.bytes i).fits) _ _ command.0 command.1 c.width-at.ensures (sym c.if-is_split.ensures)
 
 pub returns-then-at-bytes : goal.returns-then-at-bytes
 returns-then-at-bytes c = bytes_behind c.loop-open.invariant (omega arith) c.if-at-bytes.true

@@ -3,5 +3,5 @@ use Rattle.forms.proofs.form.parts.Goals as goal
 
 pub returns : goal.returns
 returns c =
-    let end = c.part-end-end.ensures in
-    two_parts c.args.bytes.now c.args.at c.part-end-end.result end.within.0 end.within.1 end.end
+    let end = c.part_end-end.ensures in
+    two_parts c.args.bytes.now c.args.at c.part_end-end.result end.within.0 end.within.1 end.end

@@ -6,18 +6,18 @@ use Rattle.hosts.specs.Meanings.{names, sheet_handle}
 use Rattle.hosts.proofs.Rows.{at_known, name_here, hold_here, hold_later, named_behind}
 use Rattle.hosts.proofs.sheet.holder.Goals as goal
 
-pub returns-then-holds-call : goal.returns-then-holds-call
-returns-then-holds-call c =
+pub returns-then-holds_call : goal.returns-then-holds_call
+returns-then-holds_call c =
     let rows = c.args.rows.now in
     let s = c.args.site in
     let v = c.args.value in
-    let held = sym c.holds-call.ensures ∙ c.if-holds-call.true in
+    let held = sym c.holds_call.ensures ∙ c.if-holds_call.true in
     let named = named_behind rows s _ (name_here rows s _ c.row-item.result c.loop-row-test.true c.row-item.is (and_parts (names s (row_of c.row-item.result)) _ held).0) in
     at_known (map row_of rows) s v named ∙ sym c.loop-row.invariant ∙ hold_here rows s _ c.row-item.result c.loop-row-test.true c.row-item.is v held
 
 pub loop-row-preserved : goal.loop-row-preserved
 loop-row-preserved c =
-    hold_later c.args.rows.now c.args.site _ c.row-item.result c.loop-row-test.true c.row-item.is c.args.value (sym c.holds-call.ensures ∙ c.if-holds-call.false)
+    hold_later c.args.rows.now c.args.site _ c.row-item.result c.loop-row-test.true c.row-item.is c.args.value (sym c.holds_call.ensures ∙ c.if-holds_call.false)
     ∙ c.loop-row.invariant
 
 pub returns : goal.returns

@@ -1,7 +1,7 @@
 use Rattle.std.proofs.Common.{◌≡◌, ℕ, not, length, take, sym, ap, ◌∙◌, subst, arith}
 use Rattle.std.proofs.lemmas.List.{at_drop_more, at_drop_all}
 use Rattle.std.proofs.ByRecursion.{All-more}
-use Rattle.std.specs.List.{AllByRecursion as All}
+use Rattle.std.specs.List.{AllByRecursion}
 use Rattle.scripts.specs.Words.{Dark, opens}
 use Rattle.scripts.proofs.word.word_end.Goals as goal
 
@@ -22,6 +22,6 @@ returns c =
     let all : c.loop-i.i ≡ length text = omega arith in
     record {
       within = omega arith;
-      front = subst (λ (n : ℕ). All Dark (take n text)) all c.loop-i.invariant;
+      front = subst (λ (n : ℕ). AllByRecursion Dark (take n text)) all c.loop-i.invariant;
       back = at_drop_all opens text (length text) (omega arith);
     }

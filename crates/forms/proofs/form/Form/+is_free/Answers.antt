@@ -14,17 +14,17 @@ pub returns-in-DefinitionCall : goal.returns-in-DefinitionCall
 unfolding free
 returns-in-DefinitionCall t c = search rules
 
-pub returns-then-is-free : goal.returns-then-is-free
+pub returns-then-is_free : goal.returns-then-is_free
 unfolding free
-returns-then-is-free t c = search rules
+returns-then-is_free t c = search rules
 
-pub returns-else-is-free : goal.returns-else-is-free
+pub returns-else-is_free : goal.returns-else-is_free
 unfolding free
-returns-else-is-free t c = search rules
+returns-else-is_free t c = search rules
 
-pub returns-then-is-free-2 : goal.returns-then-is-free-2
+pub returns-then-is_free-2 : goal.returns-then-is_free-2
 unfolding free
-returns-then-is-free-2 t c = search rules
+returns-then-is_free-2 t c = search rules
 
 pub returns-then-x-variable : goal.returns-then-x-variable
 unfolding free
@@ -34,10 +34,10 @@ pub returns-else-x-variable : goal.returns-else-x-variable
 unfolding free
 returns-else-x-variable t c = search rules
 
-pub returns-then-is-free-3 : goal.returns-then-is-free-3
+pub returns-then-is_free-3 : goal.returns-then-is_free-3
 unfolding free
-returns-then-is-free-3 t c = search rules
+returns-then-is_free-3 t c = search rules
 
-pub returns-else-is-free-3 : goal.returns-else-is-free-3
+pub returns-else-is_free-3 : goal.returns-else-is_free-3
 unfolding free
-returns-else-is-free-3 t c = search rules
+returns-else-is_free-3 t c = search rules

@@ -1,13 +1,12 @@
 use Rattle.std.proofs.Common.{◌≡◌, [], ◌∷◌, length, sym, refl, ap, ◌∙◌, arith}
 use Rattle.std.proofs.lemmas.List.{length-append}
-use Rattle.orc.specs.Expressions.{stop, site_call, definition_call, parallel, sequential, pruning, pending, bytes}
+use Rattle.orc.specs.Expressions.{stop, site_call, definition_call, parallel, sequential, pruning, bytes}
 use Rattle.formats.specs.Operands.{byte_at}
-use Rattle.forms.specs.Heads.{headed}
 use Rattle.forms.proofs.Fronts.{headed_none, headed_alone, headed_two, reaches, one_in_front, two_in_front, parts_are_forms}
 use Rattle.forms.proofs.form.Form.head.Goals as goal
 
-pub returns-in-default : goal.returns-in-default
-returns-in-default c = record { expression = headed_none _ c.in-default.ensures; parts = tt; longer = tt; forms = λ _. tt }
+pub returns-in_default : goal.returns-in_default
+returns-in_default c = record { expression = headed_none _ c.in_default.ensures; parts = tt; longer = tt; forms = λ _. tt }
 
 pub returns-in-1 : goal.returns-in-1
 returns-in-1 c =
@@ -19,7 +18,7 @@ pub returns-in-2 : goal.returns-in-2
 returns-in-2 c =
     let bs = c.args.self.bytes.now in
     let command = c.in-Some.ensures in
-    record { expression = ap (definition_call (byte_at bs 1)) c.parameter-at-in-2.ensures ∙ headed_alone bs command.1 2 (sym command.0 ∙ c.in-2.is) _ refl; parts = tt; longer = tt; forms = λ _. tt }
+    record { expression = ap (definition_call (byte_at bs 1)) c.parameter_at-in-2.ensures ∙ headed_alone bs command.1 2 (sym command.0 ∙ c.in-2.is) _ refl; parts = tt; longer = tt; forms = λ _. tt }
 
 pub returns-in-3 : goal.returns-in-3
 unfolding bytes
@@ -62,8 +61,8 @@ returns-in-6 c =
     let command = c.in-Some.ensures in
     rw c.pending_head.ensures (record { expression = headed_alone bs command.1 6 (sym command.0 ∙ c.in-6.is) _ refl; parts = tt; longer = tt; forms = λ _. tt })
 
-pub returns-in-default-command : goal.returns-in-default-command
-returns-in-default-command c =
+pub returns-in_default-command : goal.returns-in_default-command
+returns-in_default-command c =
     let bs = c.args.self.bytes.now in
     let command = c.in-Some.ensures in
     record { expression = headed_alone bs command.1 0 (omega (arith, command.0, command.1.of_a_form)) stop refl; parts = tt; longer = tt; forms = λ _. tt }

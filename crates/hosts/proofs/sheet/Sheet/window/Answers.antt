@@ -10,10 +10,10 @@ returns-then-number-windows c =
     let ws = c.windows-windows.result.now in
     let past : length (map window_of ws) ≤ c.args.number = omega (arith, length-map ws window_of) in
     entry_past (map window_of ws) c.args.number past
-    ∙ ap (λ l. entry l c.args.number) (windows_found _ _ c.args.site c.args.value c.in-ok-row.row ws c.as-slice.ensures c.in-ok-row.ensures c.windows-windows.ensures)
+    ∙ ap (λ l. entry l c.args.number) (windows_found _ _ c.args.site c.args.value c.in_ok-row.row ws c.as_slice.ensures c.in_ok-row.ensures c.windows-windows.ensures)
 
 pub returns : goal.returns
 returns c =
     let ws = c.windows-windows.result.now in
     entry_within window_of ws c.args.number _ c.if-number-windows.false
-    ∙ ap (λ l. entry l c.args.number) (windows_found _ _ c.args.site c.args.value c.in-ok-row.row ws c.as-slice.ensures c.in-ok-row.ensures c.windows-windows.ensures)
+    ∙ ap (λ l. entry l c.args.number) (windows_found _ _ c.args.site c.args.value c.in_ok-row.row ws c.as_slice.ensures c.in_ok-row.ensures c.windows-windows.ensures)
