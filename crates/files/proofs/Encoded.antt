@@ -1,5 +1,5 @@
 -- The form of an expression that may stand somewhere is read where it stands, as this expression. Assumes nothing.
-use Rattle.std.proofs.Common.{◌≡◌, ℕ, ◌+◌, ◌<◌, true, false, cond, not, ◌&&◌, eqb, ltb, leb, List, ◌∷◌, ◌++◌, length, drop, Some, Ok, refl, ap, ◌∙◌, subst, inl, inr, append_assoc, arith}
+use Rattle.std.proofs.Common.{◌≡◌, ℕ, ◌+◌, ◌<◌, true, false, not, ◌&&◌, eqb, ltb, leb, List, ◌∷◌, ◌++◌, length, drop, Some, Ok, refl, ap, ◌∙◌, subst, inl, inr, append_assoc, arith}
 use Rattle.std.proofs.lemmas.List.{length-append, drop_at}
 use Rattle.std.proofs.lemmas.Bool.{and_parts, and_from, or_left, or_right, eq-eqb, le-leb, ne_eqb, cond-true, cond-false, cases_Bool, false≢true}
 use Rattle.orc.specs.Meaning.{Meaning, is_known}

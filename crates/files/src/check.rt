@@ -53,7 +53,7 @@ fn check_parameter(bytes: &[u8], scope: Scope, at: usize) -> Result<(), Fault>
 // The operands of the site call at an offset.
 fn check_site_call<H: Host>(host: &H, bytes: &[u8], scope: Scope, at: usize) -> Result<(), Fault>
     requires { at ≤ 4096 }
-    ensures { MatchResult result (λ _. first_broken (site_call_rules (meaning host.now) bytes.now (bits scope.bound) at) ≡ None) (λ f. first_broken (site_call_rules (meaning host.now) bytes.now (bits scope.bound) at) ≡ Some f) }
+    ensures { MatchResult result (λ _. first_broken (site_call_rules (H.Host.meaning host.now) bytes.now (bits scope.bound) at) ≡ None) (λ f. first_broken (site_call_rules (H.Host.meaning host.now) bytes.now (bits scope.bound) at) ≡ Some f) }
 {
     let site = read_small(bytes, at + 1)?;
     if !host.knows(site) {
@@ -95,9 +95,9 @@ fn check_command<H: Host>(
     ensures wide { OnOk result ((at < length bytes.now) × (0 < width_of (byte_at bytes.now at))) }
     ensures judged { MatchResult result
         (λ parts. MatchOption parts
-        ((e : Expression) × SoundCommand (meaning host.now) count bytes.now (bits scope.bound) at (alone e))
-        (λ p. (make : Expression → Expression → Expression) × SoundCommand (meaning host.now) count bytes.now (bits scope.bound) at (of_two (bits p.0.bound) (bits p.1.bound) make)))
-        (λ f. FaultyCommand (meaning host.now) count bytes.now (bits scope.bound) at f) }
+        ((e : Expression) × SoundCommand (H.Host.meaning host.now) count bytes.now (bits scope.bound) at (alone e))
+        (λ p. (make : Expression → Expression → Expression) × SoundCommand (H.Host.meaning host.now) count bytes.now (bits scope.bound) at (of_two (bits p.0.bound) (bits p.1.bound) make)))
+        (λ f. FaultyCommand (H.Host.meaning host.now) count bytes.now (bits scope.bound) at f) }
 {
     if at >= bytes.len() {
         return Err(Fault::CutShort(bytes.len()));
@@ -136,8 +136,8 @@ fn check_form<H: Host>(
     requires { length bytes.now ≤ 4096 }
     ensures behind { IfOk result (λ end. at < end) }
     ensures outcome { MatchResult result
-        (λ end. (e : Expression) × FormOutcome (meaning host.now) count bytes.now (bits scope.bound) at (Ok (e, end)))
-        (λ f. FormOutcome (meaning host.now) count bytes.now (bits scope.bound) at (Err f)) }
+        (λ end. (e : Expression) × FormOutcome (H.Host.meaning host.now) count bytes.now (bits scope.bound) at (Ok (e, end)))
+        (λ f. FormOutcome (H.Host.meaning host.now) count bytes.now (bits scope.bound) at (Err f)) }
 {
     let parts = check_command(host, count, bytes, scope, at)?;
     let behind = at + width(bytes[at]);
@@ -158,8 +158,8 @@ fn check_whole<H: Host>(
 ) -> Result<(), Fault>
     requires { length bytes.now ≤ 4096 }
     ensures { MatchResult result
-        (λ _. (e : Expression) × WholeOutcome (meaning host.now) count bytes.now (bits scope.bound) at (Ok e))
-        (λ f. WholeOutcome (meaning host.now) count bytes.now (bits scope.bound) at (Err f)) }
+        (λ _. (e : Expression) × WholeOutcome (H.Host.meaning host.now) count bytes.now (bits scope.bound) at (Ok e))
+        (λ f. WholeOutcome (H.Host.meaning host.now) count bytes.now (bits scope.bound) at (Err f)) }
 {
     let end = check_form(host, count, bytes, scope, at)?;
     if end < bytes.len() {
@@ -191,8 +191,8 @@ fn check_definition<H: Host>(host: &H, count: u8, file: &[u8], at: usize) -> Res
     requires within { at ≤ length file.now }
     ensures end { IfOk result (λ end. (end ≡ definition_end file.now at) × (end ≤ length file.now)) }
     ensures outcome { MatchResult result
-        (λ _. (d : Definition) × DefinitionOutcome (meaning host.now) count file.now at (Ok d))
-        (λ f. DefinitionOutcome (meaning host.now) count file.now at (Err f)) }
+        (λ _. (d : Definition) × DefinitionOutcome (H.Host.meaning host.now) count file.now at (Ok d))
+        (λ f. DefinitionOutcome (H.Host.meaning host.now) count file.now at (Err f)) }
 {
     let (formal, end) = read_definition_head(file, at)?;
     check_whole(
@@ -222,8 +222,8 @@ fn check_definitions<H: Host>(host: &H, count: u8, file: &[u8]) -> Result<usize,
     requires short { length file.now ≤ 4096 }
     requires some { 1 ≤ length file.now }
     ensures { MatchResult result
-        (λ at. EndsIn (meaning host.now) count file.now 0 at)
-        (λ f. RestOutcome (meaning host.now) count file.now count 1 (Err f)) }
+        (λ at. EndsIn (H.Host.meaning host.now) count file.now 0 at)
+        (λ f. RestOutcome (H.Host.meaning host.now) count file.now count 1 (Err f)) }
 {
     let mut at = 1;
     for _i in 0..count {
@@ -235,8 +235,8 @@ fn check_definitions<H: Host>(host: &H, count: u8, file: &[u8]) -> Result<usize,
 // The file, to its first fault.
 fn judge_file<H: Host>(host: &H, file: &[u8]) -> Result<(), Fault>
     ensures { MatchResult result
-        (λ _. (x : File) × FileOutcome (meaning host.now) file.now (Ok x))
-        (λ f. FileOutcome (meaning host.now) file.now (Err f)) }
+        (λ _. (x : File) × FileOutcome (H.Host.meaning host.now) file.now (Ok x))
+        (λ f. FileOutcome (H.Host.meaning host.now) file.now (Err f)) }
 {
     if file.len() > 4096 {
         return Err(Fault::TooLong);
@@ -250,11 +250,11 @@ fn judge_file<H: Host>(host: &H, file: &[u8]) -> Result<(), Fault>
 // what the host's sites can reply, or else its first fault.
 pub fn check_file<H: Host>(host: &H, file: &[u8]) -> Result<(), Fault>
     ensures outcome { MatchResult result
-        (λ _. FileOutcome (meaning host.now) file.now (Ok (file_of file.now)))
-        (λ f. FileOutcome (meaning host.now) file.now (Err f)) }
+        (λ _. FileOutcome (H.Host.meaning host.now) file.now (Ok (file_of file.now)))
+        (λ f. FileOutcome (H.Host.meaning host.now) file.now (Err f)) }
     ensures encoded { MatchResult result
-        (λ _. WellFormed (meaning host.now) (file_of file.now) × (file.now ≡ file_bytes (file_of file.now)))
-        (λ _. (x : File) → WellFormed (meaning host.now) x → file.now ≢ file_bytes x) }
+        (λ _. WellFormed (H.Host.meaning host.now) (file_of file.now) × (file.now ≡ file_bytes (file_of file.now)))
+        (λ _. (x : File) → WellFormed (H.Host.meaning host.now) x → file.now ≢ file_bytes x) }
 {
     judge_file(host, file)
 }

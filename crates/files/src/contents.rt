@@ -108,8 +108,8 @@ impl<'a> Contents<'a> {
 // Judges a file with a host, and gives its definitions and goal if it is accepted.
 pub fn read_file<'a, H: Host>(host: &H, file: &'a [u8]) -> Result<Contents<'a>, Fault>
     ensures outcome { MatchResult result
-        (λ _. FileOutcome (meaning host.now) file.now (Ok (file_of file.now)))
-        (λ f. FileOutcome (meaning host.now) file.now (Err f)) }
+        (λ _. FileOutcome (H.Host.meaning host.now) file.now (Ok (file_of file.now)))
+        (λ f. FileOutcome (H.Host.meaning host.now) file.now (Err f)) }
     ensures contents { IfOk result (λ c. c.bytes.now ≡ file.now) }
 {
     check_file(host, file)?;

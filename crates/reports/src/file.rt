@@ -24,7 +24,7 @@ const DEEPEST: usize = 40;
 
 // The report of a file, judged with a host. Its first line is the verdict on the bytes.
 pub fn file_report<H: Host>(heap: Global, host: &H, bytes: &[u8]) -> Result<Report, AllocError>
-    ensures { IfOk result (λ t. JudgedFile (meaning host.now) bytes.now t) }
+    ensures { IfOk result (λ t. JudgedFile (H.Host.meaning host.now) bytes.now t) }
 {
     match check_file(host, bytes) {
         Ok(()) => {

@@ -51,7 +51,7 @@ fn call_text(heap: Global, sheet: &[u8], site: u8, value: u16) -> Result<String,
 }
 
 fn first_line<H: Host>(heap: Global, host: &H, site: u8, value: u16) -> Result<String, AllocError>
-    ensures { IfOk result (λ t. string_bytes t ≡ replies_line (meaning host.now) site value) }
+    ensures { IfOk result (λ t. string_bytes t ≡ replies_line (H.Host.meaning host.now) site value) }
 {
     call_line(
         heap,

@@ -7,19 +7,19 @@ use Rattle.files.proofs.check.judge_file.Goals as goal
 pub returns-then-file-gt4096 : goal.returns-then-file-gt4096
 returns-then-file-gt4096 g c = too_long (omega arith)
 
-pub returns-in-err-count : goal.returns-in-err-count
-returns-in-err-count g c =
+pub returns-in_err-count : goal.returns-in_err-count
+returns-in_err-count g c =
     let p = err_from_is_err_and c.from_residual.result c.from_residual.ensures.1 in
-    rw (p.1, p.2) (bad_count (omega arith) c.in-err-count.ensures.rules)
+    rw (p.1, p.2) (bad_count (omega arith) c.in_err-count.ensures.rules)
 
-pub returns-in-err-at : goal.returns-in-err-at
-returns-in-err-at g c =
-    let p = err_from_is_err_and c.from_residual-in-err-at.result c.from_residual-in-err-at.ensures.1 in
-    let count = c.in-ok-count.ensures in
-    rw (p.1, p.2) (of_file _ _ count.count.0 (omega arith) count.rules c.in-err-at.ensures)
+pub returns-in_err-at : goal.returns-in_err-at
+returns-in_err-at g c =
+    let p = err_from_is_err_and c.from_residual-in_err-at.result c.from_residual-in_err-at.ensures.1 in
+    let count = c.in_ok-count.ensures in
+    rw (p.1, p.2) (of_file _ _ count.count.0 (omega arith) count.rules c.in_err-at.ensures)
 
 pub returns : goal.returns
 returns g c =
-    let count = c.in-ok-count.ensures in
-    let r = c.check-whole.result in
-    file_judged _ _ count.count.0 (omega arith) count.rules r (at_goal _ _ _ c.in-ok-at.ensures c.empty.ensures r c.check-whole.ensures)
+    let count = c.in_ok-count.ensures in
+    let r = c.check_whole.result in
+    file_judged _ _ count.count.0 (omega arith) count.rules r (at_goal _ _ _ c.in_ok-at.ensures c.empty.ensures r c.check_whole.ensures)

@@ -10,8 +10,8 @@ loop-i-init c = (omega (arith, c.min-at.ensures), drop_clamped c.args.bytes.now 
 pub loop-i-preserved : goal.loop-i-preserved
 loop-i-preserved c =
     let bs = c.args.bytes.now in
-    let range = c.body-range-end.ensures in (
+    let range = c.body_range-end.ensures in (
       range.within.1,
-      behind_at bs c.loop-i.at c.body-range-end.result.0 c.body-range-end.result.1 range.start range.end
-          ∙ ap behind_definition c.loop-i.invariant.1 ∙ sym (behind_more c.loop-i.-i (drop 1 bs)),
+      behind_at bs c.loop-i.at c.body_range-end.result.0 c.body_range-end.result.1 range.start range.end
+          ∙ ap behind_definition c.loop-i.invariant.1 ∙ sym (behind_more c.loop-i._i (drop 1 bs)),
     )

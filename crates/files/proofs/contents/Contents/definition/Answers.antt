@@ -9,11 +9,11 @@ use Rattle.files.proofs.Offsets.{count_of, entry_past, entry_within, body_at}
 use Rattle.files.proofs.Recovered.{body_whole}
 use Rattle.files.proofs.contents.Contents.definition.Goals as goal
 
-pub returns-then-number-definition-count : goal.returns-then-number-definition-count
+pub returns-then-number-definition_count : goal.returns-then-number-definition_count
 unfolding file_of
-returns-then-number-definition-count c =
+returns-then-number-definition_count c =
     let bs = c.args.self.bytes.now in
-    let count = c.definition-count.ensures ∙ count_of (byte_at bs 0) (drop 1 bs) in
+    let count = c.definition_count.ensures ∙ count_of (byte_at bs 0) (drop 1 bs) in
     record { found = sym (entry_past (byte_at bs 0) (drop 1 bs) c.args.number (omega arith)); whole = λ file is. tt }
 
 pub returns : goal.returns
@@ -21,15 +21,15 @@ unfolding file_of
 returns c =
     let bs = c.args.self.bytes.now in
     let i = c.args.number in
-    let at = c.offset-behind-at.result in
-    let count = c.definition-count.ensures ∙ count_of (byte_at bs 0) (drop 1 bs) in
+    let at = c.offset_behind-at.result in
+    let count = c.definition_count.ensures ∙ count_of (byte_at bs 0) (drop 1 bs) in
     let within : i < byte_at bs 0 = omega arith in
-    let range = c.body-range-start.ensures in
-    let behind = c.offset-behind-at.ensures.behind in
+    let range = c.body_range-start.ensures in
+    let behind = c.offset_behind-at.ensures.behind in
     let there : c.new.result.bytes.now ≡ body_bytes (behind_definitions i (drop 1 bs))
-    = c.new.ensures ∙ body_at bs at c.body-range-start.result.0 c.body-range-start.result.1 range.start range.end ∙ ap body_bytes behind in
-    let formal : c.byte-or-zero.result ≡ byte_at (behind_definitions i (drop 1 bs)) 0
-    = c.byte-or-zero.ensures ∙ sym (get_or-drop at bs 0 0 ∙ ap (byte_at bs) (omega arith)) ∙ ap (λ l. byte_at l 0) behind in
+    = c.new.ensures ∙ body_at bs at c.body_range-start.result.0 c.body_range-start.result.1 range.start range.end ∙ ap body_bytes behind in
+    let formal : c.byte_or_zero.result ≡ byte_at (behind_definitions i (drop 1 bs)) 0
+    = c.byte_or_zero.ensures ∙ sym (get_or-drop at bs 0 0 ∙ ap (byte_at bs) (omega arith)) ∙ ap (λ l. byte_at l 0) behind in
     let body : expression_of c.new.result.bytes.now ≡ expression_of (body_bytes (behind_definitions i (drop 1 bs))) = ap expression_of there in
     let made : ℕ → Expression → Definition = λ f e. record { formal = f; body = e } in
     record {

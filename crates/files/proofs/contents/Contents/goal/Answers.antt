@@ -12,8 +12,8 @@ pub returns : goal.returns
 unfolding file_of
 returns c =
     let bs = c.args.self.bytes.now in
-    let at = c.offset-behind-at.result in
+    let at = c.offset_behind-at.result in
     let there : c.new.result.bytes.now ≡ goal_bytes bs
-    = c.new.ensures ∙ between_to_end bs at (length bs) (omega arith) ∙ c.offset-behind-at.ensures.behind
-    ∙ ap (λ n. behind_definitions n (drop 1 bs)) (c.definition-count.ensures ∙ count_of (byte_at bs 0) (drop 1 bs)) in
+    = c.new.ensures ∙ between_to_end bs at (length bs) (omega arith) ∙ c.offset_behind-at.ensures.behind
+    ∙ ap (λ n. behind_definitions n (drop 1 bs)) (c.definition_count.ensures ∙ count_of (byte_at bs 0) (drop 1 bs)) in
     record { goal = ap expression_of there; whole = λ file is. subst (λ (l : List ℕ). IsForm l) (sym there) (goal_whole bs file is) }
