@@ -13,12 +13,12 @@ returns-in-Stop t c = search rules
 pub returns-in-SiteCall : goal.returns-in-SiteCall
 unfolding due_count due_place
 returns-in-SiteCall t c =
-    at_a_call c.args.form.bytes.now c.args.n (parameter_of c.in-SiteCall.parameter) c.in-SiteCall.ensures.expression (λ is. let z : ◌≡◌ {A = ℕ} 0 1 = cc is in omega arith) refl refl c.seek-here.result c.seek-here.ensures
+    at_a_call c.args.form.bytes.now c.args.n (parameter_of c.in-SiteCall.parameter) c.in-SiteCall.ensures.expression (λ is. let z : ◌≡◌ {A = ℕ} 0 1 = cc is in omega arith) refl refl c.seek_here.result c.seek_here.ensures
 
 pub returns-in-DefinitionCall : goal.returns-in-DefinitionCall
 unfolding due_count due_place
 returns-in-DefinitionCall t c =
-    at_a_call c.args.form.bytes.now c.args.n (parameter_of c.in-DefinitionCall.parameter) c.in-DefinitionCall.ensures.expression (λ is. let z : ◌≡◌ {A = ℕ} 0 1 = cc is in omega arith) refl refl c.seek-here-in-DefinitionCall.result c.seek-here-in-DefinitionCall.ensures
+    at_a_call c.args.form.bytes.now c.args.n (parameter_of c.in-DefinitionCall.parameter) c.in-DefinitionCall.ensures.expression (λ is. let z : ◌≡◌ {A = ℕ} 0 1 = cc is in omega arith) refl refl c.seek_here-in-DefinitionCall.result c.seek_here-in-DefinitionCall.ensures
 
 pub returns-in-Ok : goal.returns-in-Ok
 unfolding due_count due_place
@@ -30,7 +30,7 @@ pub returns-in-Ok-seek : goal.returns-in-Ok-seek
 unfolding due_count due_place
 returns-in-Ok-seek t c =
     let head = c.in-Parallel.ensures in
-    rw c.as-bytes.ensures (in_the_right c.args.form.bytes.now c.in-Parallel.f.bytes.now c.in-Parallel.g.bytes.now c.args.n 1 parallel (λ f g. refl) (λ f g. refl) head.expression head.longer head.forms c.in-Err.ensures c.in-Ok-seek.ensures)
+    rw c.as_bytes.ensures (in_the_right c.args.form.bytes.now c.in-Parallel.f.bytes.now c.in-Parallel.g.bytes.now c.args.n 1 parallel (λ f g. refl) (λ f g. refl) head.expression head.longer head.forms c.in-Err.ensures c.in-Ok-seek.ensures)
 
 pub returns-in-Err-seek : goal.returns-in-Err-seek
 unfolding due_count due_place
@@ -58,7 +58,7 @@ pub returns-in-Ok-seek-4 : goal.returns-in-Ok-seek-4
 unfolding due_count due_place
 returns-in-Ok-seek-4 t c =
     let head = c.in-Pruning.ensures in
-    rw c.as-bytes-in-Ok-seek-4.ensures (in_the_right c.args.form.bytes.now c.in-Pruning.f.bytes.now c.in-Pruning.g.bytes.now c.args.n 2 (pruning c.in-Pruning.field-0) (λ f g. refl) (λ f g. refl) head.expression head.longer head.forms c.in-Err-seek-3.ensures c.in-Ok-seek-4.ensures)
+    rw c.as_bytes-in-Ok-seek-4.ensures (in_the_right c.args.form.bytes.now c.in-Pruning.f.bytes.now c.in-Pruning.g.bytes.now c.args.n 2 (pruning c.in-Pruning.field-0) (λ f g. refl) (λ f g. refl) head.expression head.longer head.forms c.in-Err-seek-3.ensures c.in-Ok-seek-4.ensures)
 
 pub returns-in-Err-seek-4 : goal.returns-in-Err-seek-4
 unfolding due_count due_place

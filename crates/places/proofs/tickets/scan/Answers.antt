@@ -13,7 +13,7 @@ returns-then-bytes-at-eq-PENDING c =
     let whole = behind_whole bs at next some in
     let is = c.if-bytes-at-eq-PENDING.true in
     let wide : next ≡ at + 12 = whole.there ∙ ap (λ b. at + width_of b) is in
-    (at, wide, c.loop-next.invariant.0, whole.within, c.loop-next.invariant.1 ∙ meets_pending bs at next some is ∙ ap (λ p. record { place = at; call = p } ∷ placed_from bs next) (sym c.pending-at.ensures))
+    (at, wide, c.loop-next.invariant.0, whole.within, c.loop-next.invariant.1 ∙ meets_pending bs at next some is ∙ ap (λ p. record { place = at; call = p } ∷ placed_from bs next) (sym c.pending_at.ensures))
 
 pub loop-next-preserved : goal.loop-next-preserved
 loop-next-preserved c =
@@ -22,4 +22,4 @@ loop-next-preserved c =
     (omega arith, c.loop-next.invariant.1 ∙ meets_other c.args.bytes.now c.loop-next.at c.in-Some.next some c.if-bytes-at-eq-PENDING.false)
 
 pub returns : goal.returns
-returns c = c.loop-next.invariant.1 ∙ meets_nothing c.args.bytes.now c.loop-next.at (sym c.in-default.ensures)
+returns c = c.loop-next.invariant.1 ∙ meets_nothing c.args.bytes.now c.loop-next.at (sym c.in_default.ensures)

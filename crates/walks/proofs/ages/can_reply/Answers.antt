@@ -4,15 +4,15 @@ use Rattle.orc.specs.Meaning.{handle, some, admits, can_reply}
 use Rattle.walks.proofs.Windows.{passed, failed, not_absent, admit_by_both}
 use Rattle.walks.proofs.ages.can_reply.Goals as goal
 
-pub loop-number-preserved-in-default : goal.loop-number-preserved-in-default
-loop-number-preserved-in-default g c =
+pub loop-number-preserved-in_default : goal.loop-number-preserved-in_default
+loop-number-preserved-in_default g c =
     let windows = (handle (g.H.Host.meaning c.args.host.now) c.args.site c.args.value).windows in
-    absurd (not_absent windows c.loop-number.number (omega arith) _ c.in-default.ensures)
+    absurd (not_absent windows c.loop-number.number (omega arith) _ c.in_default.ensures)
 
-pub loop-number-preserved-in-default-values : goal.loop-number-preserved-in-default-values
-loop-number-preserved-in-default-values g c =
+pub loop-number-preserved-in_default-values : goal.loop-number-preserved-in_default-values
+loop-number-preserved-in_default-values g c =
     let windows = (handle (g.H.Host.meaning c.args.host.now) c.args.site c.args.value).windows in
-    absurd (not_absent windows c.loop-number.number (omega arith) _ c.in-default-values.ensures)
+    absurd (not_absent windows c.loop-number.number (omega arith) _ c.in_default-values.ensures)
 
 pub returns-then-admits : goal.returns-then-admits
 unfolding can_reply

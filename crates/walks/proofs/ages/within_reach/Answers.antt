@@ -4,10 +4,10 @@ use Rattle.orc.specs.Meaning.{handle, some, reaches, within_reach}
 use Rattle.walks.proofs.Windows.{passed, failed, not_absent, reach_by_ticks}
 use Rattle.walks.proofs.ages.within_reach.Goals as goal
 
-pub loop-number-preserved-in-default : goal.loop-number-preserved-in-default
-loop-number-preserved-in-default g c =
+pub loop-number-preserved-in_default : goal.loop-number-preserved-in_default
+loop-number-preserved-in_default g c =
     let windows = (handle (g.H.Host.meaning c.args.host.now) c.args.site c.args.value).windows in
-    absurd (not_absent windows c.loop-number.number (omega arith) _ c.in-default.ensures)
+    absurd (not_absent windows c.loop-number.number (omega arith) _ c.in_default.ensures)
 
 pub returns-then-reaches : goal.returns-then-reaches
 unfolding within_reach

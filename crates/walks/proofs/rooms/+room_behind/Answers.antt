@@ -7,16 +7,16 @@ behind_last : (r : Option ℕ) (room left part whole : ℕ) → left + whole ≡
 behind_last None room left part whole all h = omega arith
 behind_last (Some n) room left part whole all h = omega arith
 
-pub returns-in-err-room : goal.returns-in-err-room
-returns-in-err-room t c = rw c.from_residual.ensures (omega (arith, c.in-err-room.ensures))
+pub returns-in_err-room : goal.returns-in_err-room
+returns-in_err-room t c = rw c.from_residual.ensures (omega (arith, c.in_err-room.ensures))
 
-pub returns-in-default : goal.returns-in-default
-returns-in-default t c = omega (arith, c.in-ok-room.ensures, ap parts_size c.in-default.ensures)
+pub returns-in_default : goal.returns-in_default
+returns-in_default t c = omega (arith, c.in_ok-room.ensures, ap parts_size c.in_default.ensures)
 
-pub returns-in-err-room-2 : goal.returns-in-err-room-2
-returns-in-err-room-2 t c =
-    rw c.from_residual-in-err-room-2.ensures (omega (arith, c.in-ok-room.ensures, ap parts_size c.in-Some.ensures, c.in-err-room-2.ensures))
+pub returns-in_err-room-2 : goal.returns-in_err-room-2
+returns-in_err-room-2 t c =
+    rw c.from_residual-in_err-room-2.ensures (omega (arith, c.in_ok-room.ensures, ap parts_size c.in-Some.ensures, c.in_err-room-2.ensures))
 
 pub returns : goal.returns
 returns t c =
-    behind_last c.room-behind-2.result _ _ _ _ (omega (arith, c.in-ok-room.ensures, ap parts_size c.in-Some.ensures, c.in-ok-room-2.ensures)) c.room-behind-2.ensures
+    behind_last c.room_behind-2.result _ _ _ _ (omega (arith, c.in_ok-room.ensures, ap parts_size c.in-Some.ensures, c.in_ok-room-2.ensures)) c.room_behind-2.ensures

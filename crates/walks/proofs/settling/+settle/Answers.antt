@@ -14,62 +14,62 @@ returns-in-Stop g t c =
     let o = content c.args.out.now in
     let some = size_positive (expression c.args.form) in
     record {
-      content = c.put.ensures.content ∙ ap (λ e. o ++ bytes e) (settled_alone (g.H.Host.meaning c.args.host.now) c.args.tick c.head-of.result c.in-Stop.is c.head-of.ensures.expression);
+      content = c.put.ensures.content ∙ ap (λ e. o ++ bytes e) (settled_alone (g.H.Host.meaning c.args.host.now) c.args.tick c.head_of.result c.in-Stop.is c.head_of.ensures.expression);
       within = search rules;
     }
 
-pub returns-then-stops-from : goal.returns-then-stops-from
-returns-then-stops-from g t c =
+pub returns-then-stops_from : goal.returns-then-stops_from
+returns-then-stops_from g t c =
     let m = g.H.Host.meaning c.args.host.now in
     let o = content c.args.out.now in
     let f = simplified (lapsed m c.args.tick (expression c.in-Parallel.f)) in
     let right = simplified (lapsed m c.args.tick (expression c.in-Parallel.g)) in
     let first = c.add.ensures.content in
     let second = c.settle.ensures.content in
-    let stops = c.if-stops-from.ensures (o ++ (3 ∷ [])) f (length-append o (3 ∷ []) ∙ omega arith) (left_behind o (3 ∷ []) (bytes f) _ _ first second) in
+    let stops = c.if-stops_from.ensures (o ++ (3 ∷ [])) f (length-append o (3 ∷ []) ∙ omega arith) (left_behind o (3 ∷ []) (bytes f) _ _ first second) in
     let back = cut_back o (3 ∷ []) (bytes f) _ _ first second (content c.truncate.new.self) _ c.len-start.ensures c.truncate.ensures in
     record {
-      content = c.settle-then-stops-from.ensures.content ∙ ap (λ l. l ++ bytes right) back ∙ ap (λ e. o ++ bytes e) (parallel_left_stop m c.args.tick _ _ c.in-Parallel.ensures.expression stops);
-      within = omega (arith, ap length back, c.settle-then-stops-from.ensures.within, c.in-Parallel.ensures.sized);
+      content = c.settle-then-stops_from.ensures.content ∙ ap (λ l. l ++ bytes right) back ∙ ap (λ e. o ++ bytes e) (parallel_left_stop m c.args.tick _ _ c.in-Parallel.ensures.expression stops);
+      within = omega (arith, ap length back, c.settle-then-stops_from.ensures.within, c.in-Parallel.ensures.sized);
     }
 
-pub returns-else-stops-from : goal.returns-else-stops-from
+pub returns-else-stops_from : goal.returns-else-stops_from
 unfolding bytes
-returns-else-stops-from g t c =
+returns-else-stops_from g t c =
     let m = g.H.Host.meaning c.args.host.now in
     let o = content c.args.out.now in
     let f = simplified (lapsed m c.args.tick (expression c.in-Parallel.f)) in
     let right = simplified (lapsed m c.args.tick (expression c.in-Parallel.g)) in
     let first = c.add.ensures.content in
     let second = c.settle.ensures.content in
-    let runs = c.if-stops-from.ensures (o ++ (3 ∷ [])) f (length-append o (3 ∷ []) ∙ omega arith) (left_behind o (3 ∷ []) (bytes f) _ _ first second) in
+    let runs = c.if-stops_from.ensures (o ++ (3 ∷ [])) f (length-append o (3 ∷ []) ∙ omega arith) (left_behind o (3 ∷ []) (bytes f) _ _ first second) in
     let long = left_length o (3 ∷ []) (bytes f) _ _ first second in
     record {
       content =
-          c.close-parallel.ensures.content o f right (omega arith) (omega arith) (sym runs) (right_behind o (3 ∷ []) (bytes f) _ _ first second (bytes right) _ c.settle-in-Parallel.ensures.content)
+          c.close_parallel.ensures.content o f right (omega arith) (omega arith) (sym runs) (right_behind o (3 ∷ []) (bytes f) _ _ first second (bytes right) _ c.settle-in-Parallel.ensures.content)
           ∙ ap (λ e. o ++ bytes e) (settled_parallel m c.args.tick _ _ c.in-Parallel.ensures.expression);
       within = search rules;
     }
 
-pub returns-then-stops-from-2 : goal.returns-then-stops-from-2
+pub returns-then-stops_from-2 : goal.returns-then-stops_from-2
 unfolding bytes
-returns-then-stops-from-2 g t c =
+returns-then-stops_from-2 g t c =
     let m = g.H.Host.meaning c.args.host.now in
     let x = c.in-Sequential.x in
     let o = content c.args.out.now in
     let f = simplified (lapsed m c.args.tick (expression c.in-Sequential.f)) in
     let first = c.add-in-Sequential.ensures.content in
     let second = c.settle-in-Sequential.ensures.content in
-    let stops = c.if-stops-from-2.ensures (o ++ (4 ∷ x ∷ [])) f (length-append o (4 ∷ x ∷ []) ∙ omega arith) (left_behind o (4 ∷ x ∷ []) (bytes f) _ _ first second) in
-    let back = cut_back o (4 ∷ x ∷ []) (bytes f) _ _ first second (content c.truncate-then-stops-from-2.new.self) _ c.len-start.ensures c.truncate-then-stops-from-2.ensures in
+    let stops = c.if-stops_from-2.ensures (o ++ (4 ∷ x ∷ [])) f (length-append o (4 ∷ x ∷ []) ∙ omega arith) (left_behind o (4 ∷ x ∷ []) (bytes f) _ _ first second) in
+    let back = cut_back o (4 ∷ x ∷ []) (bytes f) _ _ first second (content c.truncate-then-stops_from-2.new.self) _ c.len-start.ensures c.truncate-then-stops_from-2.ensures in
     record {
-      content = c.add-then-stops-from-2.ensures.content ∙ ap (λ l. l ++ (0 ∷ [])) back ∙ ap (λ e. o ++ bytes e) (sequential_left_stop m c.args.tick _ _ _ c.in-Sequential.ensures.expression stops);
-      within = omega (arith, ap length back, c.add-then-stops-from-2.ensures.len, c.in-Sequential.ensures.sized);
+      content = c.add-then-stops_from-2.ensures.content ∙ ap (λ l. l ++ (0 ∷ [])) back ∙ ap (λ e. o ++ bytes e) (sequential_left_stop m c.args.tick _ _ _ c.in-Sequential.ensures.expression stops);
+      within = omega (arith, ap length back, c.add-then-stops_from-2.ensures.len, c.in-Sequential.ensures.sized);
     }
 
-pub returns-else-stops-from-2 : goal.returns-else-stops-from-2
+pub returns-else-stops_from-2 : goal.returns-else-stops_from-2
 unfolding bytes
-returns-else-stops-from-2 g t c =
+returns-else-stops_from-2 g t c =
     let m = g.H.Host.meaning c.args.host.now in
     let x = c.in-Sequential.x in
     let o = content c.args.out.now in
@@ -77,7 +77,7 @@ returns-else-stops-from-2 g t c =
     let right = simplified (lapsed m c.args.tick (expression c.in-Sequential.g)) in
     let first = c.add-in-Sequential.ensures.content in
     let second = c.settle-in-Sequential.ensures.content in
-    let runs = c.if-stops-from-2.ensures (o ++ (4 ∷ x ∷ [])) f (length-append o (4 ∷ x ∷ []) ∙ omega arith) (left_behind o (4 ∷ x ∷ []) (bytes f) _ _ first second) in
+    let runs = c.if-stops_from-2.ensures (o ++ (4 ∷ x ∷ [])) f (length-append o (4 ∷ x ∷ []) ∙ omega arith) (left_behind o (4 ∷ x ∷ []) (bytes f) _ _ first second) in
     record {
       content = right_behind o (4 ∷ x ∷ []) (bytes f) _ _ first second (bytes right) _ c.settle-in-Sequential-2.ensures.content ∙ ap (λ e. o ++ bytes e) (settled_sequential m c.args.tick _ _ _ c.in-Sequential.ensures.expression runs);
       within = search rules;
@@ -96,24 +96,24 @@ returns-in-Pruning g t c =
     let long = left_length o (5 ∷ x ∷ []) (bytes f) _ _ first second in
     record {
       content =
-          c.close-pruning.ensures.content o f right (omega arith) (omega arith) (right_behind o (5 ∷ x ∷ []) (bytes f) _ _ first second (bytes right) _ c.settle-in-Pruning-2.ensures.content)
+          c.close_pruning.ensures.content o f right (omega arith) (omega arith) (right_behind o (5 ∷ x ∷ []) (bytes f) _ _ first second (bytes right) _ c.settle-in-Pruning-2.ensures.content)
           ∙ ap (λ e. o ++ bytes e) (settled_pruning m c.args.tick _ _ _ c.in-Pruning.ensures.expression);
       within = search rules;
     }
 
-pub returns-then-within-reach : goal.returns-then-within-reach
-returns-then-within-reach g t c =
+pub returns-then-within_reach : goal.returns-then-within_reach
+returns-then-within_reach g t c =
     let o = content c.args.out.now in
     record {
-      content = c.put-then-within-reach.ensures.content ∙ ap (λ e. o ++ bytes e) (settled_reached (g.H.Host.meaning c.args.host.now) c.args.tick _ _ _ _ c.in-Pending.ensures.expression c.if-within-reach.ensures);
+      content = c.put-then-within_reach.ensures.content ∙ ap (λ e. o ++ bytes e) (settled_reached (g.H.Host.meaning c.args.host.now) c.args.tick _ _ _ _ c.in-Pending.ensures.expression c.if-within_reach.ensures);
       within = search rules;
     }
 
-pub returns-else-within-reach : goal.returns-else-within-reach
+pub returns-else-within_reach : goal.returns-else-within_reach
 unfolding bytes
-returns-else-within-reach g t c =
+returns-else-within_reach g t c =
     let o = content c.args.out.now in
     record {
-      content = c.add-else-within-reach.ensures.content ∙ ap (λ e. o ++ bytes e) (settled_lapsed (g.H.Host.meaning c.args.host.now) c.args.tick _ _ _ _ c.in-Pending.ensures.expression c.if-within-reach.ensures);
+      content = c.add-else-within_reach.ensures.content ∙ ap (λ e. o ++ bytes e) (settled_lapsed (g.H.Host.meaning c.args.host.now) c.args.tick _ _ _ _ c.in-Pending.ensures.expression c.if-within_reach.ensures);
       within = search rules;
     }

@@ -9,38 +9,38 @@ use Rattle.walks.specs.Contents.{content}
 use Rattle.walks.proofs.Closing.{right_last, left_there, left_kept, pruning_right_stop, pruning_runs, pruning_bound}
 use Rattle.walks.proofs.settling.close_pruning.Goals as goal
 
-pub returns-then-not-stops-from : goal.returns-then-not-stops-from
+pub returns-then-not-stops_from : goal.returns-then-not-stops_from
 unfolding bytes
-returns-then-not-stops-from c = record {
+returns-then-not-stops_from c = record {
   content = λ o f g a b is.
       let l = content c.args.out.now in
       let x = c.args.variable in
-      let goes_on = c.if-not-stops-from.ensures (o ++ (5 ∷ x ∷ bytes f)) g (length-append o (5 ∷ x ∷ bytes f) ∙ omega arith) (right_last l o (5 ∷ x ∷ []) (bytes f) (bytes g) is) in
+      let goes_on = c.if-not-stops_from.ensures (o ++ (5 ∷ x ∷ bytes f)) g (length-append o (5 ∷ x ∷ bytes f) ∙ omega arith) (right_last l o (5 ∷ x ∷ []) (bytes f) (bytes g) is) in
       is ∙ ap (λ e. o ++ bytes e) (pruning_runs x f g goes_on);
   within = search rules;
 }
 
-pub returns-then-not-is-free : goal.returns-then-not-is-free
+pub returns-then-not-is_free : goal.returns-then-not-is_free
 unfolding bytes
-returns-then-not-is-free c = record {
+returns-then-not-is_free c = record {
   content = λ o f g a b is.
       let l = content c.args.out.now in
       let x = c.args.variable in
-      let stops = c.if-not-stops-from.ensures (o ++ (5 ∷ x ∷ bytes f)) g (length-append o (5 ∷ x ∷ bytes f) ∙ omega arith) (right_last l o (5 ∷ x ∷ []) (bytes f) (bytes g) is) in
+      let stops = c.if-not-stops_from.ensures (o ++ (5 ∷ x ∷ bytes f)) g (length-append o (5 ∷ x ∷ bytes f) ∙ omega arith) (right_last l o (5 ∷ x ∷ []) (bytes f) (bytes g) is) in
       let left = left_there l o (5 ∷ x ∷ []) (bytes f) (bytes g) is c.args.start (c.args.start + 2) c.args.middle a (omega arith) (omega arith) in
-      let unbound = c.if-not-is-free.ensures ∙ ap (λ l. free x (expression_of l)) (c.new-left.ensures ∙ ap (between (c.args.start + 2) c.args.middle) c.as-slice.ensures ∙ left) ∙ ap (free x) (read_back f) in
+      let unbound = c.if-not-is_free.ensures ∙ ap (λ l. free x (expression_of l)) (c.new-left.ensures ∙ ap (between (c.args.start + 2) c.args.middle) c.as_slice.ensures ∙ left) ∙ ap (free x) (read_back f) in
       c.keep.ensures.content ∙ left_kept l o (5 ∷ x ∷ []) (bytes f) (bytes g) is c.args.start (c.args.start + 2) c.args.middle a (omega arith) (omega arith) ∙ ap (λ e. o ++ bytes e) (pruning_right_stop x f g stops unbound);
   within = search rules;
 }
 
-pub returns-else-not-is-free : goal.returns-else-not-is-free
+pub returns-else-not-is_free : goal.returns-else-not-is_free
 unfolding bytes
-returns-else-not-is-free c = record {
+returns-else-not-is_free c = record {
   content = λ o f g a b is.
       let l = content c.args.out.now in
       let x = c.args.variable in
       let left = left_there l o (5 ∷ x ∷ []) (bytes f) (bytes g) is c.args.start (c.args.start + 2) c.args.middle a (omega arith) (omega arith) in
-      let bound = c.if-not-is-free.ensures ∙ ap (λ l. free x (expression_of l)) (c.new-left.ensures ∙ ap (between (c.args.start + 2) c.args.middle) c.as-slice.ensures ∙ left) ∙ ap (free x) (read_back f) in
+      let bound = c.if-not-is_free.ensures ∙ ap (λ l. free x (expression_of l)) (c.new-left.ensures ∙ ap (between (c.args.start + 2) c.args.middle) c.as_slice.ensures ∙ left) ∙ ap (free x) (read_back f) in
       is ∙ ap (λ e. o ++ bytes e) (pruning_bound x f g bound);
   within = search rules;
 }

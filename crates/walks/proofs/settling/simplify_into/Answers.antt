@@ -3,4 +3,4 @@ use Rattle.walks.proofs.Unlapsed.{nothing_lapses}
 use Rattle.walks.proofs.settling.simplify_into.Goals as goal
 
 pub returns : goal.returns
-returns c = rw (nothing_lapses 0 (expression c.args.form)) at c.settle-into.ensures
+returns c = rw (nothing_lapses 0 (expression c.args.form)) at c.settle_into.ensures

@@ -15,8 +15,8 @@ pub returns : goal.returns
 returns c =
     let b = c.args.self.now in
     let far = simp length-take at c.requires.2 in
-    let copied = c.copy-within.ensures.len in
+    let copied = c.copy_within.ensures.len in
     record {
-      content = ap (take (c.args.start + (c.args.end - c.args.from))) c.copy-within.ensures.after ∙ moved_up b.bytes c.args.start c.args.from c.args.end b.len c.requires.0 c.requires.1 (omega arith) (omega arith);
+      content = ap (take (c.args.start + (c.args.end - c.args.from))) c.copy_within.ensures.after ∙ moved_up b.bytes c.args.start c.args.from c.args.end b.len c.requires.0 c.requires.1 (omega arith) (omega arith);
       len = simp length-take (omega arith);
     }
