@@ -3,8 +3,8 @@ use Rattle.std.proofs.lemmas.Result.{IfOk-weaker}
 use Rattle.reports.specs.Ranges.{ages_text}
 use Rattle.reports.proofs.ranges.ages.Goals as goal
 
-pub returns-then-latest-eq-NO-END : goal.returns-then-latest-eq-NO-END
-returns-then-latest-eq-NO-END c =
+pub returns-then-latest-eq-NO_END : goal.returns-then-latest-eq-NO_END
+returns-then-latest-eq-NO_END c =
     let a = c.args in
-    let same = ap (λ (n : ℕ). ages_text a.earliest n a.unit) (sym c.if-latest-eq-NO-END.true) in
+    let same = ap (λ (n : ℕ). ages_text a.earliest n a.unit) (sym c.if-latest-eq-NO_END.true) in
     IfOk-weaker c.format.result _ _ (λ t e. e ∙ same) c.format.ensures.ok
