@@ -1,5 +1,5 @@
 -- The states in which a run begins. Assumes nothing.
-use Rattle.std.proofs.Common.{◌≡◌, ℕ, ◌≤◌, true, false, List, [], ◌∷◌, ◌++◌, length, sym, refl, ap, ◌∙◌, arith, length-append}
+use Rattle.std.proofs.Common.{◌≡◌, ℕ, ◌≤◌, true, false, List, [], ◌∷◌, length, sym, refl, ap, ◌∙◌, arith, length-append}
 use Rattle.orc.specs.Expressions.{Expression, bytes, size}
 use Rattle.orc.specs.Simplified.{simplified}
 use Rattle.orc.specs.Files.{File, file_bytes, definitions_bytes}
@@ -9,7 +9,7 @@ use Rattle.forms.proofs.ReadBack.{read_back}
 use Rattle.files.specs.Contents.{file_of, definitions_of, behind_definitions}
 use Rattle.walks.specs.Contents.{content}
 use Rattle.walks.specs.declared.buffer.Buffer.{Buffer}
-use Rattle.runs.specs.States.{Totals, no_totals, State, begun, unloaded}
+use Rattle.runs.specs.States.{no_totals, begun, unloaded}
 use Rattle.engine.specs.declared.record.Record.{Record}
 use Rattle.engine.specs.declared.table.Table.{Table}
 use Rattle.engine.specs.Tallies.{totals_at}

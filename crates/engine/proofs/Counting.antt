@@ -1,13 +1,11 @@
 -- Tickets counted in, one by one, and by cause. Assumes nothing.
-use Rattle.std.proofs.Common.{◌≡◌, ℕ, ◌+◌, ◌<◌, ◌≤◌, Bool, true, false, cond, eqb, List, [], ◌∷◌, count_by, filter, sym, refl, ap, ◌∙◌, subst, add-zero, add_assoc, arith}
-use Rattle.std.specs.List.{AllByRecursion}
+use Rattle.std.proofs.Common.{◌≡◌, ℕ, ◌+◌, ◌<◌, Bool, true, false, cond, eqb, List, [], ◌∷◌, count_by, filter, sym, refl, ap, ◌∙◌, subst, add-zero, arith}
 use Rattle.std.proofs.lemmas.Bool.{eq-eqb}
-use Rattle.std.proofs.lemmas.Bool.Decides.{nat_tests}
 use Rattle.orc.specs.Calls.{Pending}
 use Rattle.places.specs.Scans.{pendings_from}
 use Rattle.runs.proofs.Counts.{count_cons}
 use Rattle.runs.specs.States.{Totals}
-use Rattle.runs.specs.Tickets.{of_site, Tickets, no_tickets, counted, added}
+use Rattle.runs.specs.Tickets.{of_site, counted, added}
 use Rattle.engine.specs.declared.table.Table.{Table}
 use Rattle.engine.specs.declared.table.Cause.{Cause}
 use Rattle.engine.specs.declared.table.Cause.TheVariants.{Called, Answered, Withdrawn, Lapsed}

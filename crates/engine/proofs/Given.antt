@@ -1,12 +1,11 @@
 -- The state that a run's parts stand for, part by part, and the facts in its type. Assumes nothing.
-use Rattle.std.proofs.Common.{◌≡◌, ℕ, Bool, List, sym, subst}
-use Rattle.orc.specs.Expressions.{Expression, Definition}
+use Rattle.std.proofs.Common.{◌≡◌, ℕ, Bool, sym, subst}
 use Rattle.orc.specs.Files.{file_bytes}
 use Rattle.forms.specs.Heads.{IsForm}
 use Rattle.files.specs.Contents.{file_of}
 use Rattle.walks.specs.Contents.{content}
 use Rattle.walks.specs.declared.buffer.Buffer.{Buffer}
-use Rattle.runs.specs.States.{Entry, Totals, State}
+use Rattle.runs.specs.States.{State}
 use Rattle.runs.specs.Bounds.{Keeps}
 use Rattle.runs.specs.Facts.{FormalsBind, BodiesFit, StateFits, Facts}
 use Rattle.runs.proofs.Stating.{facts_of, kept_from}
@@ -22,10 +21,10 @@ same_state l d c e n m t = λ i. record { loaded = l i; definitions = d i; clock
 
 -- The facts in the type of a run, by its parts, from a state that keeps its bounds.
 module _ (loaded : Bool) (file : Buffer) (clock : ℕ) (form : Buffer) (issued : ℕ) (events : Record) (table : Table) where
-  pub given : {s : State} → held loaded file clock form issued events table ≡ s → Keeps s → file_bytes (file_of (content file)) ≡ content file → IsForm (content form) → (file_bytes (file_of (content file)) ≡ content file) × (IsForm (content form) × (FormalsBind (file_of (content file)).definitions × (BodiesFit (file_of (content file)).definitions × (StateFits (held loaded file clock form issued events table) × Unit {0}))))
-  given is keeps whole-file whole_form =
+  pub given : {s : State} → held loaded file clock form issued events table ≡ s → Keeps s → file_bytes (file_of (content file)) ≡ content file → IsForm (content form) → (file_bytes (file_of (content file)) ≡ content file) × IsForm (content form) × FormalsBind (file_of (content file)).definitions × BodiesFit (file_of (content file)).definitions × StateFits (held loaded file clock form issued events table)
+  given is keeps whole_file whole_form =
       let facts = subst Facts (sym is) (facts_of keeps) in
-      (whole-file, (whole_form, (facts.0, (facts.1, (facts.2, tt)))))
+      (whole_file, whole_form, facts.0, facts.1, facts.2)
 
 -- They say that its state keeps its bounds.
 pub keeps : (p : Plain) → Keeps (state_of p)

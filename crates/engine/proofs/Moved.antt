@@ -1,11 +1,11 @@
 -- What a run holds after a transition. Assumes nothing.
-use Rattle.std.proofs.Common.{◌≡◌, ℕ, suc, ◌+◌, ◌^◌, ◌<◌, ◌≤◌, Bool, true, not, eqb, leb, List, [], ◌∷◌, ◌++◌, length, Ok, count_by, filter, sym, refl, ap, ◌∙◌, subst, add-zero, arith}
+use Rattle.std.proofs.Common.{◌≡◌, ℕ, suc, ◌+◌, ◌<◌, ◌≤◌, Bool, not, eqb, leb, List, [], ◌∷◌, ◌++◌, length, Ok, count_by, filter, sym, refl, ap, ◌∙◌, add-zero, arith}
 use Rattle.std.specs.List.{ContainsAt as Has, AllByRecursion}
 use Rattle.std.proofs.ByRecursion.{All-weaker, all-has, all_kept_by}
 use Rattle.std.proofs.lemmas.List.Sums.{count_by-le-length}
 use Rattle.std.proofs.lemmas.Bool.{leb-true, eq-eqb, not_from_true}
 use Rattle.orc.specs.Meaning.{Meaning, Lawful}
-use Rattle.orc.specs.Expressions.{Expression, bytes}
+use Rattle.orc.specs.Expressions.{Expression}
 use Rattle.orc.specs.Calls.{Pending, pending_calls, lapses}
 use Rattle.orc.specs.Steps.{Act, called, inner, out, Leaf, due, reply, Step}
 use Rattle.orc.specs.Laws.{begun as made}
@@ -17,8 +17,8 @@ use Rattle.walks.specs.declared.buffer.Buffer.{Buffer}
 use Rattle.runs.specs.declared.call.Call.{Call}
 use Rattle.runs.specs.declared.call.Call.TheVariants.{Go, Answer, Wait}
 use Rattle.runs.specs.States.{State, world_of}
-use Rattle.runs.specs.Tickets.{of_site, Tickets, counted, added}
-use Rattle.runs.specs.Outcomes.{Takes, by_go, by_answer, settled, lapsing, answering, stepped, waited, Outcome, takes, passes}
+use Rattle.runs.specs.Tickets.{of_site}
+use Rattle.runs.specs.Outcomes.{Takes, by_go, by_answer, settled, answering, stepped, waited, Outcome, takes, passes}
 use Rattle.runs.specs.Counting.{ended}
 use Rattle.runs.specs.Bounds.{KeptExpression, Keeps}
 use Rattle.runs.proofs.Keeping.{kept, kept_stepped}
@@ -29,10 +29,9 @@ use Rattle.runs.proofs.Standing.{reply_begins}
 use Rattle.runs.proofs.Ranging.{pending_pass, ranged_step, RangedAct}
 use Rattle.engine.specs.declared.record.Record.{Record}
 use Rattle.engine.specs.declared.table.Table.{Table}
-use Rattle.engine.specs.declared.table.Cause.{Cause}
 use Rattle.engine.specs.declared.table.Cause.TheVariants.{Called, Answered, Withdrawn, Lapsed}
 use Rattle.engine.specs.declared.plain.Plain.{Plain}
-use Rattle.engine.specs.Tallies.{totals_at, amount, by_cause, CountsIn, Room}
+use Rattle.engine.specs.Tallies.{totals_at, by_cause, CountsIn, Room}
 use Rattle.engine.specs.Held.{held, entries}
 use Rattle.engine.specs.Stands.{state_of}
 use Rattle.engine.specs.Moves.{MayBeMade, MayBeWaited}

@@ -1,14 +1,13 @@
 -- The transitions that go and answer find in the form of a run. Assumes nothing.
-use Rattle.std.proofs.Common.{◌≡◌, ℕ, suc, ◌+◌, ◌-◌, ◌<◌, ◌≤◌, true, false, ltb, List, [], ◌∷◌, ◌++◌, length, take, drop, Some, None, Option, sym, refl, ap, ◌∙◌, subst, add-one, arith, length-append, length-drop}
+use Rattle.std.proofs.Common.{◌≡◌, ℕ, suc, ◌+◌, ◌-◌, ◌<◌, ◌≤◌, true, false, ltb, List, [], ◌∷◌, ◌++◌, length, take, drop, Some, Option, sym, refl, ap, ◌∙◌, subst, add-one, arith, length-append, length-drop}
 use Rattle.std.specs.List.{ContainsAt as Has}
 use Rattle.std.proofs.ByRecursion.{has_append_right, has_append_left}
 use Rattle.std.proofs.lemmas.List.{drop_at, take_all}
 use Rattle.std.proofs.lemmas.Bool.{ltb-false}
 use Rattle.orc.specs.Meaning.{Meaning, handle, can_reply}
-use Rattle.orc.specs.Expressions.{Expression, pending, bytes, Definition}
-use Rattle.orc.specs.Calls.{due_count, Pending, pending_calls, handle_at, RightsUnbegun}
+use Rattle.orc.specs.Expressions.{Expression, pending, bytes}
+use Rattle.orc.specs.Calls.{due_count, Pending, pending_calls, handle_at}
 use Rattle.orc.specs.Steps.{Act}
-use Rattle.orc.specs.Sound.{standing}
 use Rattle.forms.specs.Reading.{expression_of}
 use Rattle.forms.specs.Heads.{IsForm, headed}
 use Rattle.forms.specs.declared.form.Head.{Head}
@@ -18,16 +17,14 @@ use Rattle.files.specs.Contents.{file_of}
 use Rattle.walks.specs.Capacity.{capacity}
 use Rattle.walks.specs.Contents.{content}
 use Rattle.places.specs.Places.{due_place}
-use Rattle.places.specs.Scans.{placed_calls, first_place, ticket_place}
+use Rattle.places.specs.Scans.{ticket_place}
 use Rattle.places.specs.Frames.{nearest_frame}
-use Rattle.places.specs.Splices.{Transition, PendingThere}
 use Rattle.places.specs.declared.frames.Stretch.{Stretch}
-use Rattle.places.proofs.Gaps.{Gap, fill, before, after, bytes_filled, calls_before, calls_after, calls_filled}
+use Rattle.places.proofs.Gaps.{before, after, bytes_filled, calls_before, calls_after, calls_filled}
 use Rattle.places.proofs.Locating.{ticket_located}
 use Rattle.places.proofs.Splicing.{replies_take_effect}
 use Rattle.runs.specs.declared.call.Call.TheVariants.{Go, Answer}
 use Rattle.runs.specs.declared.refusal.Refusal.TheVariants.{NoneDue, OutsideEveryWindow, RecordFull}
-use Rattle.runs.specs.States.{State}
 use Rattle.runs.specs.Outcomes.{Takes, by_go, by_answer, longest_record, Refuses, is_none_due, is_outside_every_window, is_record_full}
 use Rattle.steps.specs.Made.{Made}
 use Rattle.steps.specs.Replied.{Replied, publishes, spawns, binds}
@@ -35,7 +32,7 @@ use Rattle.steps.specs.Laws.{withdrawn_with}
 use Rattle.steps.proofs.Transitions.{made_calls_are_transitions, due_calls_can_be_made, replies_are_transitions, replies_can_be_made}
 use Rattle.engine.specs.declared.plain.Plain.{Plain}
 use Rattle.engine.specs.Stands.{state_of}
-use Rattle.engine.specs.Moves.{Move, FormWithin, NamesCall, ReplyStep}
+use Rattle.engine.specs.Moves.{Move, FormWithin, ReplyStep}
 use Rattle.engine.proofs.Given.{keeps}
 
 -- the form of a run is no larger than a form may be

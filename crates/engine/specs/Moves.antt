@@ -1,5 +1,5 @@
 -- When a transition may be made, and time may pass. Assumes nothing.
-use Rattle.std.specs.Prelude.{◌≡◌, ℕ, ◌+◌, ◌<◌, ◌≤◌, true, List, [], length, IfSome, Option}
+use Rattle.std.specs.Prelude.{◌≡◌, ℕ, ◌+◌, ◌<◌, ◌≤◌, true, List, length, IfSome, Option}
 use Rattle.std.specs.List.{between, ContainsAt as Has}
 use Rattle.orc.specs.Meaning.{Meaning, Lawful}
 use Rattle.orc.specs.Expressions.{bytes, size}

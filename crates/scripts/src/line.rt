@@ -1,7 +1,7 @@
 // The lines of a script: what a line says, and the line that says a call.
 ghost use Rattle.std.specs.Prelude.{◌≡◌, ◌<◌, length, IfOk, Some, Ok, string_bytes, MatchOption, ◌≢◌};
-ghost use Rattle.runs.specs.declared.call.Call.{Call as A-call};
-ghost use Rattle.scripts.specs.declared.line.Verb.{Verb as A-verb};
+ghost use Rattle.runs.specs.declared.call.Call.{Call as ACall};
+ghost use Rattle.scripts.specs.declared.line.Verb.{Verb as AVerb};
 ghost use Rattle.scripts.specs.Words.{words};
 ghost use Rattle.scripts.specs.Lines.{Outcome, Says, line_of, InRange, spelling};
 
@@ -24,7 +24,7 @@ pub enum Verb {
 pub fn read_call(line: &str) -> Result<Option<Call>, LineFault>
     ensures says { Says (words line.now) result }
     ensures only { (o : Outcome) → Says (words line.now) o → o ≡ result }
-    ensures back { (c : A-call) → InRange c → line.now ≡ line_of c → result ≡ Ok (Some c) }
+    ensures back { (c : ACall) → InRange c → line.now ≡ line_of c → result ≡ Ok (Some c) }
 {
     read_bytes(line.as_bytes())
 }
@@ -71,15 +71,15 @@ fn read_bytes(line: &[u8]) -> Result<Option<Call>, LineFault>
 
 // The call that a word names.
 fn named_verb(word: &[u8]) -> Option<Verb>
-    ensures { MatchOption result ((v : A-verb) → word.now ≢ spelling v) (λ v. word.now ≡ spelling v) }
+    ensures { MatchOption result ((v : AVerb) → word.now ≢ spelling v) (λ v. word.now ≡ spelling v) }
 {
-    if word == b"go" {
+    if word == b"go".as_slice() {
         return Some(Verb::Go);
     }
-    if word == b"answer" {
+    if word == b"answer".as_slice() {
         return Some(Verb::Answer);
     }
-    if word == b"wait" {
+    if word == b"wait".as_slice() {
         return Some(Verb::Wait);
     }
     None

@@ -1,5 +1,4 @@
-use Rattle.std.proofs.Common.{filter, sym, refl, ◌∙◌, subst}
-use Rattle.places.specs.Scans.{pendings_from}
+use Rattle.std.proofs.Common.{filter, sym, refl, subst}
 use Rattle.places.specs.Tickets.{pending_of}
 use Rattle.places.proofs.Placing.{pendings_are_all}
 use Rattle.engine.specs.Tallies.{Room}
@@ -29,4 +28,4 @@ loop-next-preserved g c =
 
 pub returns : goal.returns
 returns g c =
-    all_counted _ c.args.cause c.args.form.bytes.now c.args.table.now c.loop-next.table c.loop-next.at c.loop-next.invariant c.in-default.ensures.next _ (pendings_are_all c.args.form.bytes.now c.requires.form)
+    all_counted _ c.args.cause c.args.form.bytes.now c.args.table.now c.loop-next.table c.loop-next.at c.loop-next.invariant c.in_default.ensures.next _ (pendings_are_all c.args.form.bytes.now c.requires.form)

@@ -1,4 +1,4 @@
-use Rattle.std.proofs.Common.{◌≡◌, ◌<◌, [], ◌∷◌, sym, refl, ap, subst}
+use Rattle.std.proofs.Common.{◌<◌, [], refl, subst}
 use Rattle.walks.specs.Contents.{content}
 use Rattle.runs.specs.declared.call.Call.TheVariants.{Answer}
 use Rattle.events.specs.Acts.{act_of}
@@ -18,8 +18,8 @@ count-requires c =
     subst (λ site. (site < 32) × (amount Answered (totals_at p.table site) < 65535)) x.names.has_site
     (first_has_room p.table Answered x.names.call [] (room_answered x.meaning x.laws p c.args.ticket x.value (act_of c.args.act) gone x.left (content c.args.form.now) x.may x.names.call x.names.stands x.names.has_ticket))
 
-pub count-withdrawn-requires : goal.count-withdrawn-requires
-count-withdrawn-requires c =
+pub count_withdrawn-requires : goal.count_withdrawn-requires
+count_withdrawn-requires c =
     let x = c.requires in
     let p = c.args.self.now in
     let gone = withdrawn_with c.args.ticket (content p.form) c.args.pruned in
@@ -31,18 +31,20 @@ count-withdrawn-requires c =
 pub push-requires : goal.push-requires
 push-requires c = c.requires.may.move.room
 
-pub invariant-of-self : goal.invariant-of-self
-invariant-of-self c =
+pub invariant_of-self : goal.invariant_of-self
+invariant_of-self c =
     let x = c.requires in
     let p = c.args.self.now in
     let gone = withdrawn_with c.args.ticket (content p.form) c.args.pruned in
     let a = act_of c.args.act in
     let bs' = content c.args.form.now in
-    given p.loaded p.file p.clock c.args.form.now p.issued c.push.new.self c.count-withdrawn.new.table
+    let it =
+    given p.loaded p.file p.clock c.args.form.now p.issued c.push.new.self c.count_withdrawn.new.table
     (answered_state x.meaning x.laws p c.args.ticket x.value a gone x.left bs' x.may x.names.call x.names.stands x.names.has_ticket c.count.new.self (c.count.ensures x.names.call x.names.has_site)
-    c.args.form.now c.push.new.self c.count-withdrawn.new.table c.count-withdrawn.ensures c.push.ensures refl)
+    c.args.form.now c.push.new.self c.count_withdrawn.new.table c.count_withdrawn.ensures c.push.ensures refl)
     (kept_after x.meaning x.laws p (Answer c.args.ticket x.value) a gone x.left bs' x.may)
-    p.whole_file (moved_form x.meaning x.laws p (Answer c.args.ticket x.value) a gone x.left bs' x.may c.args.form.now refl)
+    p.whole_file (moved_form x.meaning x.laws p (Answer c.args.ticket x.value) a gone x.left bs' x.may c.args.form.now refl) in
+    record { whole_file = it.0; whole_form = it.1; formals = it.2; bodies = it.3; fits = it.4 }
 
 pub returns : goal.returns
 returns c =
@@ -51,4 +53,4 @@ returns c =
     let gone = withdrawn_with c.args.ticket (content p.form) c.args.pruned in
     λ m laws v bs may.
     answered_state m laws p c.args.ticket v (act_of c.args.act) gone bs (content c.args.form.now) may x.names.call x.names.stands x.names.has_ticket c.count.new.self (c.count.ensures x.names.call x.names.has_site)
-    c.args.form.now c.push.new.self c.count-withdrawn.new.table c.count-withdrawn.ensures c.push.ensures refl
+    c.args.form.now c.push.new.self c.count_withdrawn.new.table c.count_withdrawn.ensures c.push.ensures refl

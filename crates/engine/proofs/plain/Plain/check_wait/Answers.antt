@@ -1,4 +1,4 @@
-use Rattle.std.proofs.Common.{◌≡◌, ◌+◌, ◌⊎◌, refl, ap, ◌∙◌, inl, inr, arith}
+use Rattle.std.proofs.Common.{◌≡◌, ◌+◌, ◌⊎◌, ◌∙◌, inl, inr, arith}
 use Rattle.orc.specs.Calls.{due_count}
 use Rattle.runs.specs.Outcomes.{is_not_loaded}
 use Rattle.engine.specs.Stands.{state_of}
@@ -11,47 +11,47 @@ returns-then-not-self g c = is_not_loaded c.if-not-self.true
 
 pub returns-then-due-gt0 : goal.returns-then-due-gt0
 returns-then-due-gt0 g c =
-    due_first (g.H.Host.meaning c.args.host.now) c.args.self.now c.args.ticks c.if-not-self.false c.new-form.result.bytes.now (c.new-form.ensures ∙ c.as-slice.ensures) c.due-count-due.result c.due-count-due.ensures.count c.if-ticks-gt0.true c.if-due-gt0.true
+    due_first (g.H.Host.meaning c.args.host.now) c.args.self.now c.args.ticks c.if-not-self.false c.new-form.result.bytes.now (c.new-form.ensures ∙ c.as_slice.ensures) c.due_count-due.result c.due_count-due.ensures.count c.if-ticks-gt0.true c.if-due-gt0.true
 
 pub returns-in-Some : goal.returns-in-Some
 returns-in-Some g c =
     let m = g.H.Host.meaning c.args.host.now in
     let p = c.args.self.now in
     let bs = c.new-form.result.bytes.now in
-    let same = c.new-form.ensures ∙ c.as-slice.ensures in
-    let due = c.due-count-due.result in
+    let same = c.new-form.ensures ∙ c.as_slice.ensures in
+    let due = c.due_count-due.result in
     let idle : (c.args.ticks ≡ 0) ⊎ (due_count (state_of p).expression ≡ 0) =
     elim c.else-ticks-gt0.branch [
-      | else-ticks-gt0-via-then-ticks-gt0+else-due-gt0 w ↦ inr (none_due m p c.args.ticks c.if-not-self.false bs same due c.due-count-due.ensures.count w.if-due-gt0.false)
+      | else-ticks-gt0-via-then-ticks-gt0+else-due-gt0 w ↦ inr (none_due m p c.args.ticks c.if-not-self.false bs same due c.due_count-due.ensures.count w.if-due-gt0.false)
       | else-ticks-gt0-via-else-ticks-gt0 w ↦ inl (omega (arith, w.if-ticks-gt0.false))
     ] in
     let found = c.in-Some.ensures in
-    late_one m p c.args.ticks c.if-not-self.false bs same due c.due-count-due.ensures.count idle (c.from.result + c.from-2.result) (omega (arith, c.from.ensures, c.from-2.ensures)) c.in-Some.ticket found.0 found.1 found.2
+    late_one m p c.args.ticks c.if-not-self.false bs same due c.due_count-due.ensures.count idle (c.from.result + c.from-2.result) (omega (arith, c.from.ensures, c.from-2.ensures)) c.in-Some.ticket found.0 found.1 found.2
 
-pub returns-then-tick-gt-LAST-CLOCK : goal.returns-then-tick-gt-LAST-CLOCK
-returns-then-tick-gt-LAST-CLOCK g c =
+pub returns-then-tick-gt-LAST_CLOCK : goal.returns-then-tick-gt-LAST_CLOCK
+returns-then-tick-gt-LAST_CLOCK g c =
     let m = g.H.Host.meaning c.args.host.now in
     let p = c.args.self.now in
     let bs = c.new-form.result.bytes.now in
-    let same = c.new-form.ensures ∙ c.as-slice.ensures in
-    let due = c.due-count-due.result in
+    let same = c.new-form.ensures ∙ c.as_slice.ensures in
+    let due = c.due_count-due.result in
     let idle : (c.args.ticks ≡ 0) ⊎ (due_count (state_of p).expression ≡ 0) =
     elim c.else-ticks-gt0.branch [
-      | else-ticks-gt0-via-then-ticks-gt0+else-due-gt0 w ↦ inr (none_due m p c.args.ticks c.if-not-self.false bs same due c.due-count-due.ensures.count w.if-due-gt0.false)
+      | else-ticks-gt0-via-then-ticks-gt0+else-due-gt0 w ↦ inr (none_due m p c.args.ticks c.if-not-self.false bs same due c.due_count-due.ensures.count w.if-due-gt0.false)
       | else-ticks-gt0-via-else-ticks-gt0 w ↦ inl (omega (arith, w.if-ticks-gt0.false))
     ] in
-    past_end m p c.args.ticks c.if-not-self.false bs same due c.due-count-due.ensures.count idle (c.from.result + c.from-2.result) (omega (arith, c.from.ensures, c.from-2.ensures)) c.in-default.ensures c.if-tick-gt-LAST-CLOCK.true
+    past_end m p c.args.ticks c.if-not-self.false bs same due c.due_count-due.ensures.count idle (c.from.result + c.from-2.result) (omega (arith, c.from.ensures, c.from-2.ensures)) c.in_default.ensures c.if-tick-gt-LAST_CLOCK.true
 
 pub returns : goal.returns
 returns g c =
     let m = g.H.Host.meaning c.args.host.now in
     let p = c.args.self.now in
     let bs = c.new-form.result.bytes.now in
-    let same = c.new-form.ensures ∙ c.as-slice.ensures in
-    let due = c.due-count-due.result in
+    let same = c.new-form.ensures ∙ c.as_slice.ensures in
+    let due = c.due_count-due.result in
     let idle : (c.args.ticks ≡ 0) ⊎ (due_count (state_of p).expression ≡ 0) =
     elim c.else-ticks-gt0.branch [
-      | else-ticks-gt0-via-then-ticks-gt0+else-due-gt0 w ↦ inr (none_due m p c.args.ticks c.if-not-self.false bs same due c.due-count-due.ensures.count w.if-due-gt0.false)
+      | else-ticks-gt0-via-then-ticks-gt0+else-due-gt0 w ↦ inr (none_due m p c.args.ticks c.if-not-self.false bs same due c.due_count-due.ensures.count w.if-due-gt0.false)
       | else-ticks-gt0-via-else-ticks-gt0 w ↦ inl (omega (arith, w.if-ticks-gt0.false))
     ] in
-    can_pass m p c.args.ticks c.if-not-self.false bs same due c.due-count-due.ensures.count idle (c.from.result + c.from-2.result) (omega (arith, c.from.ensures, c.from-2.ensures)) c.in-default.ensures c.if-tick-gt-LAST-CLOCK.false
+    can_pass m p c.args.ticks c.if-not-self.false bs same due c.due_count-due.ensures.count idle (c.from.result + c.from-2.result) (omega (arith, c.from.ensures, c.from-2.ensures)) c.in_default.ensures c.if-tick-gt-LAST_CLOCK.false

@@ -1,30 +1,32 @@
-use Rattle.std.proofs.Common.{◌+◌, refl, arith}
+use Rattle.std.proofs.Common.{◌+◌, refl}
 use Rattle.walks.specs.Contents.{content}
 use Rattle.engine.proofs.Given.{given}
 use Rattle.engine.proofs.Moved.{room_waited, kept_waited, waited_form, waited_state}
 use Rattle.engine.proofs.plain.Plain.waited.Goals as goal
 
-pub count-lapsed-requires : goal.count-lapsed-requires
-count-lapsed-requires g c =
+pub count_lapsed-requires : goal.count_lapsed-requires
+count_lapsed-requires g c =
     let host = c.args.host.now in
     record {
       form = c.args.self.now.whole_form;
       room = room_waited (g.H.Host.meaning host) (g.H.Host.laws host) c.args.self.now c.args.ticks (content c.args.form.now) c.requires;
     }
 
-pub invariant-of-self : goal.invariant-of-self
-invariant-of-self g c =
+pub invariant_of-self : goal.invariant_of-self
+invariant_of-self g c =
     let host = c.args.host.now in
     let m = g.H.Host.meaning host in
     let laws = g.H.Host.laws host in
     let p = c.args.self.now in
     let bs' = content c.args.form.now in
-    given p.loaded p.file (p.clock + c.args.ticks) c.args.form.now p.issued p.events c.count-lapsed.new.table
-    (waited_state m laws p c.args.ticks bs' c.requires c.args.form.now c.count-lapsed.new.table c.count-lapsed.ensures refl)
+    let it =
+    given p.loaded p.file (p.clock + c.args.ticks) c.args.form.now p.issued p.events c.count_lapsed.new.table
+    (waited_state m laws p c.args.ticks bs' c.requires c.args.form.now c.count_lapsed.new.table c.count_lapsed.ensures refl)
     (kept_waited m laws p c.args.ticks bs' c.requires)
-    p.whole_file (waited_form m laws p c.args.ticks bs' c.requires c.args.form.now refl)
+    p.whole_file (waited_form m laws p c.args.ticks bs' c.requires c.args.form.now refl) in
+    record { whole_file = it.0; whole_form = it.1; formals = it.2; bodies = it.3; fits = it.4 }
 
 pub returns : goal.returns
 returns g c =
     let host = c.args.host.now in
-    waited_state (g.H.Host.meaning host) (g.H.Host.laws host) c.args.self.now c.args.ticks (content c.args.form.now) c.requires c.args.form.now c.count-lapsed.new.table c.count-lapsed.ensures refl
+    waited_state (g.H.Host.meaning host) (g.H.Host.laws host) c.args.self.now c.args.ticks (content c.args.form.now) c.requires c.args.form.now c.count_lapsed.new.table c.count_lapsed.ensures refl

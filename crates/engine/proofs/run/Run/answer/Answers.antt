@@ -1,4 +1,4 @@
-use Rattle.std.proofs.Common.{Ok, Err, sym, refl, subst}
+use Rattle.std.proofs.Common.{Ok, sym, refl, subst}
 use Rattle.std.proofs.lemmas.Result.{err_from_is_err_and}
 use Rattle.walks.specs.Contents.{content}
 use Rattle.runs.specs.declared.call.Call.TheVariants.{Answer}
@@ -17,37 +17,37 @@ returns-then-not-self g c =
     let o = refuses (is_not_loaded c.if-not-self.true) in
     record { outcome = o; made = every_transition m p (Answer c.args.ticket c.args.value) _ _ o; refused = refl; host = refl }
 
-pub returns-in-default : goal.returns-in-default
-returns-in-default g c =
+pub returns-in_default : goal.returns-in_default
+returns-in_default g c =
     let m = g.H.Host.meaning c.args.self.now.host in
     let p = c.args.self.now.plain in
-    let o = refuses (is_not_standing c.if-not-self.false c.in-default.ensures) in
+    let o = refuses (is_not_standing c.if-not-self.false c.in_default.ensures) in
     record { outcome = o; made = every_transition m p (Answer c.args.ticket c.args.value) _ _ o; refused = refl; host = refl }
 
-pub returns-in-err-reply : goal.returns-in-err-reply
-returns-in-err-reply g c =
+pub returns-in_err-reply : goal.returns-in_err-reply
+returns-in_err-reply g c =
     let m = g.H.Host.meaning c.args.self.now.host in
     let p = c.args.self.now.plain in
     let call = Answer c.args.ticket c.args.value in
     let r = c.from_residual.result in
     let e = err_from_is_err_and r c.from_residual.ensures.1 in
-    let o = refused_outcome m p call r e.0 _ e.1 e.2 c.in-err-reply.ensures in
+    let o = refused_outcome m p call r e.0 _ e.1 e.2 c.in_err-reply.ensures in
     record { outcome = o; made = every_transition m p call r _ o; refused = refused_keeps m p call r e.0 _ e.1 e.2; host = refl }
 
 pub simplify-form-requires : goal.simplify-form-requires
-simplify-form-requires g c = c.in-ok-reply.ensures.move.form
+simplify-form-requires g c = c.in_ok-reply.ensures.move.form
 
-pub returns-in-err-check-size : goal.returns-in-err-check-size
-returns-in-err-check-size g c =
+pub returns-in_err-check_size : goal.returns-in_err-check_size
+returns-in_err-check_size g c =
     let m = g.H.Host.meaning c.args.self.now.host in
     let p = c.args.self.now.plain in
     let call = Answer c.args.ticket c.args.value in
-    let reply = c.in-ok-reply.reply in
-    let r = c.from_residual-in-err-check-size.result in
-    let e = err_from_is_err_and r c.from_residual-in-err-check-size.ensures.1 in
-    let large = c.in-err-check-size.ensures in
+    let reply = c.in_ok-reply.reply in
+    let r = c.from_residual-in_err-check_size.result in
+    let e = err_from_is_err_and r c.from_residual-in_err-check_size.ensures.1 in
+    let large = c.in_err-check_size.ensures in
     let gone = withdrawn_with c.args.ticket (content p.form) reply.pruned in
-    let refuses = outgrown m p call (act_of reply.act) gone (content reply.form) (content c.simplify-form.result) c.in-ok-reply.ensures.move c.simplify-form.ensures _ large.0 large.1 in
+    let refuses = outgrown m p call (act_of reply.act) gone (content reply.form) (content c.simplify-form.result) c.in_ok-reply.ensures.move c.simplify-form.ensures _ large.0 large.1 in
     let o = refused_outcome m p call r e.0 _ e.1 e.2 refuses in
     record { outcome = o; made = every_transition m p call r _ o; refused = refused_keeps m p call r e.0 _ e.1 e.2; host = refl }
 
@@ -56,15 +56,15 @@ answered-requires g c =
     let host = c.args.self.now.host in
     let m = g.H.Host.meaning host in
     let p = c.args.self.now.plain in
-    let reply = c.in-ok-reply.reply in
-    let step = c.in-ok-reply.ensures in
+    let reply = c.in_ok-reply.reply in
+    let step = c.in_ok-reply.ensures in
     let gone = withdrawn_with c.args.ticket (content p.form) reply.pruned in
     record {
       meaning = m;
       laws = g.H.Host.laws host;
       value = c.args.value;
       left = content reply.form;
-      may = may_be_made m p (Answer c.args.ticket c.args.value) (act_of reply.act) gone (content reply.form) (content c.simplify-form.result) step.move c.simplify-form.ensures c.in-ok-check-size.ensures;
+      may = may_be_made m p (Answer c.args.ticket c.args.value) (act_of reply.act) gone (content reply.form) (content c.simplify-form.result) step.move c.simplify-form.ensures c.in_ok-check_size.ensures;
       names = step.names;
     }
 
@@ -75,10 +75,10 @@ returns g c =
     let laws = g.H.Host.laws host in
     let p = c.args.self.now.plain in
     let call = Answer c.args.ticket c.args.value in
-    let reply = c.in-ok-reply.reply in
+    let reply = c.in_ok-reply.reply in
     let bs = content reply.form in
     let bs' = content c.simplify-form.result in
     let gone = withdrawn_with c.args.ticket (content p.form) reply.pruned in
-    let may = may_be_made m p call (act_of reply.act) gone bs bs' c.in-ok-reply.ensures.move c.simplify-form.ensures c.in-ok-check-size.ensures in
+    let may = may_be_made m p call (act_of reply.act) gone bs bs' c.in_ok-reply.ensures.move c.simplify-form.ensures c.in_ok-check_size.ensures in
     let o = subst (Outcome m (state_of p) call (Ok tt)) (sym (c.answered.ensures m laws c.args.value bs may)) (outcome m laws p call (act_of reply.act) gone bs bs' may) in
     record { outcome = o; made = every_transition m p call (Ok tt) _ o; refused = tt; host = refl }
