@@ -1,8 +1,7 @@
 -- Histories that are played call by call. Assumes nothing.
-use Rattle.std.proofs.Common.{◌≡◌, ℕ, ◌+◌, ◌<◌, ◌≤◌, List, [], ◌∷◌, ◌++◌, length, get_or, take, IfOk, Ok, Err, Result, sym, ◌∙◌, subst, MatchResult}
+use Rattle.std.proofs.Common.{◌≡◌, ℕ, ◌+◌, ◌<◌, ◌≤◌, List, [], ◌∷◌, ◌++◌, length, get_or, take, IfOk, Ok, Err, Result, sym, subst, MatchResult}
 use Rattle.std.proofs.lemmas.List.{take_more, take_all}
 use Rattle.orc.specs.Meaning.{Meaning}
-use Rattle.orc.specs.Files.{File}
 use Rattle.files.specs.Contents.{file_of}
 use Rattle.formats.specs.declared.fault.Fault.{Fault}
 use Rattle.runs.specs.declared.call.Call.{Call}

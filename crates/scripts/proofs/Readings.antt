@@ -14,7 +14,6 @@ use Rattle.runs.specs.declared.call.Call.TheVariants.{Go, Answer, Wait}
 use Rattle.scripts.specs.declared.fault.LineFault.{LineFault}
 use Rattle.scripts.specs.declared.fault.LineFault.TheVariants.{UnknownWord}
 use Rattle.scripts.specs.declared.line.Verb.{Verb}
-use Rattle.scripts.specs.declared.line.Verb.TheVariants as Verb
 use Rattle.scripts.specs.Words.{words, opens, Dark}
 use Rattle.scripts.specs.Operands.{operands, followed_by, first_then, number_of}
 use Rattle.scripts.specs.Lines.{Outcome, Says, is_blank, is_comment, is_call, is_faulty, is_unknown, verb_of, spelling, numbers, limits, InRange, line_of}

@@ -3,7 +3,6 @@ use Rattle.std.specs.Prelude.{◌≡◌, ℕ, ◌≤◌, List, [], ◌∷◌, �
 use Rattle.runs.specs.declared.call.Call.{Call}
 use Rattle.runs.specs.declared.call.Call.TheVariants.{Go, Answer, Wait}
 use Rattle.scripts.specs.declared.line.Verb.{Verb}
-use Rattle.scripts.specs.declared.line.Verb.TheVariants as Verb
 use Rattle.scripts.specs.declared.fault.LineFault.{LineFault}
 use Rattle.scripts.specs.declared.fault.LineFault.TheVariants.{UnknownWord}
 use Rattle.scripts.specs.Operands.{operands}

@@ -1,4 +1,4 @@
-use Rattle.std.proofs.Common.{get_or, vec_items, sym, refl, ◌∙◌, subst}
+use Rattle.std.proofs.Common.{get_or, vec_items, refl, ◌∙◌, subst}
 use Rattle.runs.specs.declared.call.Call.TheVariants.{Go}
 use Rattle.std.proofs.lemmas.Result.{MatchResult-weaker}
 use Rattle.runs.specs.Outcomes.{Outcome}
@@ -17,7 +17,7 @@ loop-call-preserved g c =
     let host = before.0 in
     let o = subst (λ h. Outcome (m h) (state_of c.loop-call.run.plain) (get_or c.args.calls.now c.loop-call.call-index (Go 0)) c.make.result (state_of c.make.new.self.plain)) host c.make.ensures.outcome in (
       c.make.ensures.host ∙ host,
-      played_on (m c.begin-run.result.0.host) (state_of c.begin-run.result.0.plain) (state_of c.loop-call.run.plain) (state_of c.make.new.self.plain) c.args.calls.now c.loop-call.call-index (Go 0) c.make.result (vec_items c.loop-call.responses) (vec_items c.push.new.self) c.loop-call-test.true before.1 o c.in-ok-push.ensures.items,
+      played_on (m c.begin-run.result.0.host) (state_of c.begin-run.result.0.plain) (state_of c.loop-call.run.plain) (state_of c.make.new.self.plain) c.args.calls.now c.loop-call.call-index (Go 0) c.make.result (vec_items c.loop-call.responses) (vec_items c.push.new.self) c.loop-call-test.true before.1 o c.in_ok-push.ensures.items,
     )
 
 pub returns : goal.returns

@@ -6,50 +6,50 @@ use Rattle.scripts.specs.Words.{words}
 use Rattle.scripts.specs.Lines.{spelling, is_blank, is_comment, is_call, is_faulty, is_unknown}
 use Rattle.scripts.proofs.line.read_bytes.Goals as goal
 
-pub returns-in-default : goal.returns-in-default
-returns-in-default c = is_blank c.in-default.ensures
+pub returns-in_default : goal.returns-in_default
+returns-in_default c = is_blank c.in_default.ensures
 
 pub returns-then-word-eq35 : goal.returns-then-word-eq35
 returns-then-word-eq35 c = is_comment c.in-Some.word.now (words c.in-Some.rest.now) c.in-Some.ensures.1 c.if-word-eq35.true
 
-pub returns-in-err-number : goal.returns-in-err-number
-returns-in-err-number c =
+pub returns-in_err-number-in-Go : goal.returns-in_err-number-in-Go
+returns-in_err-number-in-Go c =
     let p = err_from_is_err_and c.from_residual.result c.from_residual.ensures.1 in
     let rest = words c.in-Some.rest.now in
-    let begins = c.in-Some.ensures.1 ∙ ap (λ (w : List ℕ). w ∷ rest) (c.in-Some-named-verb.ensures ∙ ap spelling c.in-Go.is) in
-    rw (p.1, p.2) (is_faulty Verb.Go rest _ begins c.in-err-number.ensures)
+    let begins = c.in-Some.ensures.1 ∙ ap (λ (w : List ℕ). w ∷ rest) (c.in-Some-named_verb.ensures ∙ ap spelling c.in-Go.is) in
+    rw (p.1, p.2) (is_faulty Verb.Go rest _ begins c.in_err-number-in-Go.ensures)
 
-pub returns-in-err-ticket : goal.returns-in-err-ticket
-returns-in-err-ticket c =
-    let p = err_from_is_err_and c.from_residual-in-err-ticket.result c.from_residual-in-err-ticket.ensures.1 in
+pub returns-in_err-ticket-in-Answer : goal.returns-in_err-ticket-in-Answer
+returns-in_err-ticket-in-Answer c =
+    let p = err_from_is_err_and c.from_residual-in_err-ticket-in-Answer.result c.from_residual-in_err-ticket-in-Answer.ensures.1 in
     let rest = words c.in-Some.rest.now in
-    let begins = c.in-Some.ensures.1 ∙ ap (λ (w : List ℕ). w ∷ rest) (c.in-Some-named-verb.ensures ∙ ap spelling c.in-Answer.is) in
-    rw (p.1, p.2) (is_faulty Verb.Answer rest _ begins c.in-err-ticket.ensures)
+    let begins = c.in-Some.ensures.1 ∙ ap (λ (w : List ℕ). w ∷ rest) (c.in-Some-named_verb.ensures ∙ ap spelling c.in-Answer.is) in
+    rw (p.1, p.2) (is_faulty Verb.Answer rest _ begins c.in_err-ticket-in-Answer.ensures)
 
-pub returns-in-err-ticks : goal.returns-in-err-ticks
-returns-in-err-ticks c =
-    let p = err_from_is_err_and c.from_residual-in-err-ticks.result c.from_residual-in-err-ticks.ensures.1 in
+pub returns-in_err-ticks-in-Wait : goal.returns-in_err-ticks-in-Wait
+returns-in_err-ticks-in-Wait c =
+    let p = err_from_is_err_and c.from_residual-in_err-ticks-in-Wait.result c.from_residual-in_err-ticks-in-Wait.ensures.1 in
     let rest = words c.in-Some.rest.now in
-    let begins = c.in-Some.ensures.1 ∙ ap (λ (w : List ℕ). w ∷ rest) (c.in-Some-named-verb.ensures ∙ ap spelling c.in-Wait.is) in
-    rw (p.1, p.2) (is_faulty Verb.Wait rest _ begins c.in-err-ticks.ensures)
+    let begins = c.in-Some.ensures.1 ∙ ap (λ (w : List ℕ). w ∷ rest) (c.in-Some-named_verb.ensures ∙ ap spelling c.in-Wait.is) in
+    rw (p.1, p.2) (is_faulty Verb.Wait rest _ begins c.in_err-ticks-in-Wait.ensures)
 
-pub returns-in-ok-number : goal.returns-in-ok-number
-returns-in-ok-number c =
+pub returns-in_ok-number-in-Go : goal.returns-in_ok-number-in-Go
+returns-in_ok-number-in-Go c =
     let rest = words c.in-Some.rest.now in
-    let begins = c.in-Some.ensures.1 ∙ ap (λ (w : List ℕ). w ∷ rest) (c.in-Some-named-verb.ensures ∙ ap spelling c.in-Go.is) in
-    is_call (Go c.in-ok-number.number) rest begins c.in-ok-number.ensures
+    let begins = c.in-Some.ensures.1 ∙ ap (λ (w : List ℕ). w ∷ rest) (c.in-Some-named_verb.ensures ∙ ap spelling c.in-Go.is) in
+    is_call (Go c.in_ok-number-in-Go.number) rest begins c.in_ok-number-in-Go.ensures
 
-pub returns-in-ok-ticket : goal.returns-in-ok-ticket
-returns-in-ok-ticket c =
+pub returns-in_ok-ticket-in-Answer : goal.returns-in_ok-ticket-in-Answer
+returns-in_ok-ticket-in-Answer c =
     let rest = words c.in-Some.rest.now in
-    let begins = c.in-Some.ensures.1 ∙ ap (λ (w : List ℕ). w ∷ rest) (c.in-Some-named-verb.ensures ∙ ap spelling c.in-Answer.is) in
-    is_call (Answer c.in-ok-ticket.ticket c.in-ok-ticket.value) rest begins c.in-ok-ticket.ensures
+    let begins = c.in-Some.ensures.1 ∙ ap (λ (w : List ℕ). w ∷ rest) (c.in-Some-named_verb.ensures ∙ ap spelling c.in-Answer.is) in
+    is_call (Answer c.in_ok-ticket-in-Answer.ticket c.in_ok-ticket-in-Answer.value) rest begins c.in_ok-ticket-in-Answer.ensures
 
-pub returns-in-ok-ticks : goal.returns-in-ok-ticks
-returns-in-ok-ticks c =
+pub returns-in_ok-ticks-in-Wait : goal.returns-in_ok-ticks-in-Wait
+returns-in_ok-ticks-in-Wait c =
     let rest = words c.in-Some.rest.now in
-    let begins = c.in-Some.ensures.1 ∙ ap (λ (w : List ℕ). w ∷ rest) (c.in-Some-named-verb.ensures ∙ ap spelling c.in-Wait.is) in
-    is_call (Wait c.in-ok-ticks.ticks) rest begins c.in-ok-ticks.ensures
+    let begins = c.in-Some.ensures.1 ∙ ap (λ (w : List ℕ). w ∷ rest) (c.in-Some-named_verb.ensures ∙ ap spelling c.in-Wait.is) in
+    is_call (Wait c.in_ok-ticks-in-Wait.ticks) rest begins c.in_ok-ticks-in-Wait.ensures
 
-pub returns-in-default-named-verb : goal.returns-in-default-named-verb
-returns-in-default-named-verb c = is_unknown c.in-Some.word.now (words c.in-Some.rest.now) c.in-Some.ensures.1 c.if-word-eq35.false c.in-default-named-verb.ensures
+pub returns-in_default-named_verb : goal.returns-in_default-named_verb
+returns-in_default-named_verb c = is_unknown c.in-Some.word.now (words c.in-Some.rest.now) c.in-Some.ensures.1 c.if-word-eq35.false c.in_default-named_verb.ensures

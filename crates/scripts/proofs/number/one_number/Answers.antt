@@ -3,15 +3,15 @@ use Rattle.std.proofs.lemmas.Result.{err_from_is_err_and}
 use Rattle.scripts.specs.Operands.{followed_by}
 use Rattle.scripts.proofs.number.one_number.Goals as goal
 
-pub returns-in-err-n : goal.returns-in-err-n
-returns-in-err-n c =
+pub returns-in_err-n : goal.returns-in_err-n
+returns-in_err-n c =
     let p = err_from_is_err_and c.from_residual.result c.from_residual.ensures.1 in
-    rw (p.1, p.2) (c.in-err-n.ensures [])
+    rw (p.1, p.2) (c.in_err-n.ensures [])
 
-pub returns-in-err-no-more : goal.returns-in-err-no-more
-returns-in-err-no-more c =
-    let p = err_from_is_err_and c.from_residual-in-err-no-more.result c.from_residual-in-err-no-more.ensures.1 in
-    rw (p.1, p.2) (c.in-ok-n.ensures.1 [] ∙ ap (followed_by c.in-ok-n.n) c.in-err-no-more.ensures)
+pub returns-in_err-no_more : goal.returns-in_err-no_more
+returns-in_err-no_more c =
+    let p = err_from_is_err_and c.from_residual-in_err-no_more.result c.from_residual-in_err-no_more.ensures.1 in
+    rw (p.1, p.2) (c.in_ok-n.ensures.1 [] ∙ ap (followed_by c.in_ok-n.n) c.in_err-no_more.ensures)
 
 pub returns : goal.returns
-returns c = c.in-ok-n.ensures.1 [] ∙ ap (followed_by c.in-ok-n.n) c.in-ok-no-more.ensures
+returns c = c.in_ok-n.ensures.1 [] ∙ ap (followed_by c.in_ok-n.n) c.in_ok-no_more.ensures

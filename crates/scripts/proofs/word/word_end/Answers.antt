@@ -5,16 +5,16 @@ use Rattle.std.specs.List.{AllByRecursion}
 use Rattle.scripts.specs.Words.{Dark, opens}
 use Rattle.scripts.proofs.word.word_end.Goals as goal
 
-pub returns-then-is-ascii-whitespace : goal.returns-then-is-ascii-whitespace
-returns-then-is-ascii-whitespace c =
+pub returns-then-is_ascii_whitespace : goal.returns-then-is_ascii_whitespace
+returns-then-is_ascii_whitespace c =
     record {
       within = omega arith;
       front = c.loop-i.invariant;
-      back = at_drop_more opens c.args.text.now c.loop-i.i 0 c.loop-i-test.true ∙ ap not (sym c.if-is-ascii-whitespace.ensures.value);
+      back = at_drop_more opens c.args.text.now c.loop-i.i 0 c.loop-i-test.true ∙ ap not (sym c.if-is_ascii_whitespace.ensures.value);
     }
 
 pub loop-i-preserved : goal.loop-i-preserved
-loop-i-preserved c = All-more Dark c.args.text.now c.loop-i.i 0 c.loop-i-test.true c.loop-i.invariant (sym c.if-is-ascii-whitespace.ensures.value)
+loop-i-preserved c = All-more Dark c.args.text.now c.loop-i.i 0 c.loop-i-test.true c.loop-i.invariant (sym c.if-is_ascii_whitespace.ensures.value)
 
 pub returns : goal.returns
 returns c =
