@@ -2,8 +2,7 @@
 # make test  proves everything, tries the must-fail edits, runs every program and test
 
 run:
-	rt check door
-	./target/bin/door check crates/door/data/close.par crates/door/data/door.sheet
+	cd crates/door && rt run -- check data/close.par data/door.sheet
 
 test:
 	.ci/run

@@ -1,7 +1,6 @@
 // The program that a mechanic runs.
 #![tactic(auto)]
 
-use anyhow::anyhow;
 use hosts::local::Local;
 use reports::file::{file_report, file_report_with_sheet};
 use reports::replies::replies_report;
@@ -9,6 +8,7 @@ use reports::report::Report;
 use reports::sheet::sheet_report;
 use std::fs::File;
 use std::io::Read;
+use std::process::ExitCode;
 use std::{env, io};
 
 const USAGE: &str = "usage: door check FILE [SHEET]         judge a parameter file, with a sheet
@@ -41,15 +41,15 @@ The exit status is 0 if the file is accepted, else 1.
 // An input is read far enough to tell that it is too long.
 const LONGEST: usize = 4096;
 
-fn main(rt: HostRuntime) -> anyhow::Result<()> {
+fn main(rt: HostRuntime) -> anyhow::Result<ExitCode> {
     let mut words = Vec::new(rt.alloc());
     for word in env::args(&rt)?.skip(1) {
         words.push(word)?;
     }
     if run(&rt, words.as_slice())? {
-        return Ok(());
+        return Ok(ExitCode::SUCCESS);
     }
-    Err(anyhow!("refused"))
+    Ok(ExitCode::FAILURE)
 }
 
 // Does what the words ask, and tells whether all went well.

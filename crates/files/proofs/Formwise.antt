@@ -31,7 +31,7 @@ further at before (Err f) after = tt
 
 -- the body of a definition is judged over the bytes up to the definition's end, with the formal bound
 pub body_there : (m : Meaning) (n : ℕ) (bs : List ℕ) (at : ℕ) {scope empty : Scope} {formal end : ℕ} {o : Outcome Expression}
-    → end ≡ definition_end bs at → formal ≡ byte_at bs at → empty ≡ nothing_bound → scope ≡ binding formal empty → WholeOutcome m n (take (end - 0) bs) scope (at + 3) o → BodyOutcome m n bs at o
-body_there m n bs at {formal} {end} {o} there is none with judged =
+    → WholeOutcome m n (take (end - 0) bs) scope (at + 3) o → end ≡ definition_end bs at → formal ≡ byte_at bs at → empty ≡ nothing_bound → scope ≡ binding formal empty → BodyOutcome m n bs at o
+body_there m n bs at {scope} {empty} {formal} {end} {o} judged there is none with =
     let up_to : take (end - 0) bs ≡ take (definition_end bs at) bs = ap (λ k. take k bs) (omega arith) in
     subst₂ (λ (l : List ℕ) (s : Scope). WholeOutcome m n l s (at + 3) o) up_to (with ∙ ap (binding formal) none ∙ ap (λ x. binding x nothing_bound) is) judged

@@ -35,13 +35,13 @@ in_range x place = record { kept = nat_le x 31; fault = OperandBeyondRange place
 -- a parameter: its mark, and then its number, any value or a variable that is bound
 abbrev pub parameter_rules : List ℕ → Scope → ℕ → List Rule
 parameter_rules bs scope at =
-    let is-value = nat_eq (byte_at bs at) 0 in
+    let is_value = nat_eq (byte_at bs at) 0 in
     let number = two_at bs (at + 1) in
     reaches_to bs (at + 1)
     ∷ record { kept = nat_le (byte_at bs at) 1; fault = OperandBeyondRange at }
     ∷ reaches_to bs (at + 3)
-    ∷ record { kept = is-value || nat_le number 31; fault = OperandBeyondRange (at + 1) }
-    ∷ record { kept = is-value || scope number; fault = FreeVariable (at + 1) }
+    ∷ record { kept = is_value || nat_le number 31; fault = OperandBeyondRange (at + 1) }
+    ∷ record { kept = is_value || scope number; fault = FreeVariable (at + 1) }
     ∷ []
 
 -- the operands of a site call, of a definition call, and of a command that binds a variable

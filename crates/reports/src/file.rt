@@ -1,6 +1,6 @@
 // The report of a parameter file: a verdict, and then its definitions and goal as a tree, or what was expected and where.
 ghost use Rattle.std.specs.Prelude.{◌≡◌, false, IfOk, string_bytes, MatchResult};
-ghost use Rattle.sheets.specs.Format.{Outcome as Sheet-result, SheetOutcome};
+ghost use Rattle.sheets.specs.Format.{Outcome as SheetResult, SheetOutcome};
 ghost use Rattle.reports.specs.Files.{JudgedFile};
 ghost use Rattle.reports.specs.Replies.{controller};
 ghost use Rattle.reports.specs.Verdicts.{first_line, Begins};
@@ -54,7 +54,7 @@ pub fn file_report_with_sheet(
     bytes: &[u8],
     sheet: &[u8],
 ) -> Result<Report, AllocError>
-    ensures { IfOk result (λ t. (s : Sheet-result) × SheetOutcome sheet.now s × MatchResult s (λ _. JudgedFile (controller s) bytes.now t) (λ _. Begins (first_line s) (string_bytes t.text) × (t.accepted ≡ false))) }
+    ensures { IfOk result (λ t. (s : SheetResult) × SheetOutcome sheet.now s × MatchResult s (λ _. JudgedFile (controller s) bytes.now t) (λ _. Begins (first_line s) (string_bytes t.text) × (t.accepted ≡ false))) }
 {
     match check_sheet(sheet) {
         Ok(()) => over_sheet(heap, bytes, sheet),
@@ -68,7 +68,7 @@ pub fn file_report_with_sheet(
 }
 
 fn over_sheet(heap: Global, bytes: &[u8], sheet: &[u8]) -> Result<Report, AllocError>
-    ensures { IfOk result (λ t. (s : Sheet-result) × SheetOutcome sheet.now s × JudgedFile (controller s) bytes.now t) }
+    ensures { IfOk result (λ t. (s : SheetResult) × SheetOutcome sheet.now s × JudgedFile (controller s) bytes.now t) }
 {
     let host = Pair {
         first: Local,

@@ -5,7 +5,7 @@
 -- for what goes by cases on an expression or a list. So a test stands here for each definition by cases, and what all
 -- elements of a list keep is said of each that the list has. Nor does antt look deeper than five steps: a function, a
 -- product and an order are one step each, an equation between numbers is two, and one between lists three. Each fact below
--- keeps within that, up to State-fits, and may be one ghost field; the product of all of them may not.
+-- keeps within that, up to StateFits, and may be one ghost field; the product of all of them may not.
 use Rattle.std.specs.Prelude.{◌≡◌, ℕ, ◌+◌, ◌≤◌, Bool, true, ◌&&◌, ◌↔◌, List, length, ◌==◌, nat_lt}
 use Rattle.std.specs.List.{ContainsAt as Has}
 use Rattle.orc.specs.Expressions.{Expression, stop, site_call, definition_call, parallel, sequential, pruning, pending, Definition, bytes, size}

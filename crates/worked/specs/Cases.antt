@@ -14,7 +14,8 @@ pub record Judged (bs : List ℕ) (o : Outcome File) : Type 0 where
   pub only : (o' : Outcome File) → FileOutcome local bs o' → o' ≡ o
 
 pub record EightWorkedCases : Type 0 where
-  -- Seven runs, from the bytes of their files: the responses to their calls, and what they leave, and no other.
+  -- Seven runs, and four more at limits and edges, from the bytes of their files: the responses to their calls, and what
+  -- they leave, and no other.
   pub runs : WorkedCases
   -- The bytes of each such run are accepted by begin as its file, and as nothing else.
   pub begun : {bs : List ℕ} {file : File} {calls : List Call} {responses : List Response} {site : ℕ} {left : Left} → ComesTo bs file calls responses site left → Judged bs (Ok file)

@@ -12,10 +12,10 @@ pub returns-in_err-check_whole : goal.returns-in_err-check_whole
 returns-in_err-check_whole g c =
     let p = err_from_is_err_and c.from_residual-in_err-check_whole.result c.from_residual-in_err-check_whole.ensures.1 in
     let head = c.in_ok-formal.ensures in
-    rw (p.1, p.2) (record { end = tt; outcome = bad_body head.rules (body_there _ _ _ _ head.head.2 head.head.0 c.empty.ensures c.with.ensures c.in_err-check_whole.ensures) })
+    rw (p.1, p.2) (record { end = tt; outcome = bad_body head.rules (body_there _ _ _ _ c.in_err-check_whole.ensures head.head.2 head.head.0 c.empty.ensures assumption) })
 
 pub returns : goal.returns
 returns g c =
     let head = c.in_ok-formal.ensures in
     let body = c.in_ok-check_whole.ensures in
-    record { end = (head.head.2, head.head.3); outcome = (_, defines head.rules (body_there _ _ _ _ head.head.2 head.head.0 c.empty.ensures c.with.ensures body.1)) }
+    record { end = (head.head.2, head.head.3); outcome = (_, defines head.rules (body_there _ _ _ _ body.1 head.head.2 head.head.0 c.empty.ensures assumption)) }
