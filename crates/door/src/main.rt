@@ -4,12 +4,12 @@
 use hosts::local::Local;
 use reports::file::{file_report, file_report_with_sheet};
 use reports::replies::replies_report;
-use reports::report::Report;
 use reports::sheet::sheet_report;
+use std::alloc::AllocError;
 use std::fs::File;
 use std::io::Read;
 use std::process::ExitCode;
-use std::{env, io};
+use std::{env, fmt, io};
 
 const USAGE: &str = "usage: door check FILE [SHEET]         judge a parameter file, with a sheet
        door sheet SHEET                judge a site sheet
@@ -38,121 +38,143 @@ const HELP: &str = "door judges the files of a lift's door controller.
 The exit status is 0 if the file is accepted, else 1.
 ";
 
-// An input is read far enough to tell that it is too long.
-const LONGEST: usize = 4096;
+// How much of an input is read: past the longest that is accepted, of 4096 bytes, to the last byte that a report shows.
+const MOST_READ: u64 = 4608;
 
+// What the words ask for. Files are named by their paths.
+#[derive(Clone, Copy)]
+enum Command<'a> {
+    Help,
+    Check {
+        file: &'a str,
+        sheet: Option<&'a str>,
+    },
+    Sheet(&'a str),
+    Replies {
+        sheet: &'a str,
+        site: u8,
+        value: u16,
+    },
+}
+
+impl<'a> Command<'a> {
+    fn parse(words: &'a [String]) -> Result<Command<'a>, Stop<'a>> {
+        let (command, operands) = words.split_first().ok_or(Stop::Usage)?;
+        match (command.as_str(), operands) {
+            ("help", []) => Ok(Command::Help),
+            ("check", [file]) => Ok(Command::Check {
+                file: file.as_str(),
+                sheet: None,
+            }),
+            ("check", [file, sheet]) => Ok(Command::Check {
+                file: file.as_str(),
+                sheet: Some(sheet.as_str()),
+            }),
+            ("sheet", [sheet]) => Ok(Command::Sheet(sheet.as_str())),
+            ("replies", [sheet, site, value]) => Ok(Command::Replies {
+                sheet: sheet.as_str(),
+                site: site.parse().map_err(|_| Stop::NoNumber)?,
+                value: value.parse().map_err(|_| Stop::NoNumber)?,
+            }),
+            _ => Err(Stop::Usage),
+        }
+    }
+}
+
+// Why door ends with no report.
+#[derive(Drop)]
+enum Stop<'a> {
+    // The words ask for nothing that it does.
+    Usage,
+    // A site or a value is no number of its range.
+    NoNumber,
+    // The file of a path can't be read.
+    Unread(&'a str, io::Error),
+    // There is no memory, or no way to print. The program ends with this error.
+    Failed(anyhow::Error),
+}
+
+// What is told of it on standard error.
+impl<'a> fmt::Display for Stop<'a> {
+    fn fmt<W: fmt::Write>(&self, f: &mut fmt::Formatter<W>) -> fmt::Result {
+        match self {
+            Stop::Usage => write!(f, "{USAGE}"),
+            Stop::NoNumber => write!(
+                f,
+                "door: a site is 0 to 255, and a value 0 to 65535\n{USAGE}"
+            ),
+            Stop::Unread(path, error) => writeln!(f, "door: {path}: {error}"),
+            Stop::Failed(error) => writeln!(f, "door: {error}"),
+        }
+    }
+}
+
+impl<'a> From<AllocError> for Stop<'a> {
+    fn from(error: AllocError) -> Stop<'a> {
+        Stop::Failed(error.into())
+    }
+}
+
+impl<'a> From<io::Error> for Stop<'a> {
+    fn from(error: io::Error) -> Stop<'a> {
+        Stop::Failed(error.into())
+    }
+}
+
+// The exit status says whether what was judged is accepted.
 fn main(rt: HostRuntime) -> anyhow::Result<ExitCode> {
-    let mut words = Vec::new(rt.alloc());
-    for word in env::args(&rt)?.skip(1) {
-        words.push(word)?;
+    let words = env::args(&rt)?.skip(1).collect::<Vec<String>>(rt.alloc())?;
+    match run(&rt, words.as_slice()) {
+        Ok(code) => Ok(code),
+        Err(Stop::Failed(error)) => Err(error),
+        Err(stop) => {
+            eprint!(rt; "{stop}")?;
+            Ok(ExitCode::FAILURE)
+        }
     }
-    if run(&rt, words.as_slice())? {
-        return Ok(ExitCode::SUCCESS);
-    }
-    Ok(ExitCode::FAILURE)
 }
 
-// Does what the words ask, and tells whether all went well.
-fn run(rt: &HostRuntime, words: &[String]) -> anyhow::Result<bool> {
-    match words {
-        [command] if command.as_str() == "help" => {
+// Does what the words ask.
+fn run<'a>(rt: &HostRuntime, words: &'a [String]) -> Result<ExitCode, Stop<'a>> {
+    let heap = rt.alloc();
+    let report = match Command::parse(words)? {
+        Command::Help => {
             print!(rt; "{HELP}")?;
-            Ok(true)
+            return Ok(ExitCode::SUCCESS);
         }
-        [command, path] if command.as_str() == "sheet" => judge_sheet(rt, path.as_str()),
-        [command, path] if command.as_str() == "check" => check_alone(rt, path.as_str()),
-        [command, path, sheet] if command.as_str() == "check" => check_with_sheet(
-            rt,
-            path.as_str(),
-            sheet.as_str(),
-        ),
-        [command, path, site, value] if command.as_str() == "replies" => show_replies(
-            rt,
-            path.as_str(),
-            site.as_str(),
-            value.as_str(),
-        ),
-        _ => {
-            eprint!(rt; "{USAGE}")?;
-            Ok(false)
+        Command::Check { file, sheet } => {
+            let bytes = read(rt, file)?;
+            match sheet {
+                None => file_report(heap, &Local, bytes.as_slice())?,
+                Some(sheet) => {
+                    let rows = read(rt, sheet)?;
+                    file_report_with_sheet(heap, bytes.as_slice(), rows.as_slice())?
+                }
+            }
         }
-    }
-}
-
-fn judge_sheet(rt: &HostRuntime, path: &str) -> anyhow::Result<bool> {
-    let Some(bytes) = read_input(rt, path)? else {
-        return Ok(false);
+        Command::Sheet(sheet) => sheet_report(heap, read(rt, sheet)?.as_slice())?,
+        Command::Replies { sheet, site, value } => {
+            replies_report(heap, read(rt, sheet)?.as_slice(), site, value)?
+        }
     };
-    print_report(rt, sheet_report(rt.alloc(), bytes.as_slice())?)
-}
-
-fn check_alone(rt: &HostRuntime, path: &str) -> anyhow::Result<bool> {
-    let Some(bytes) = read_input(rt, path)? else {
-        return Ok(false);
-    };
-    print_report(rt, file_report(rt.alloc(), &Local, bytes.as_slice())?)
-}
-
-fn check_with_sheet(rt: &HostRuntime, path: &str, sheet: &str) -> anyhow::Result<bool> {
-    let Some(bytes) = read_input(rt, path)? else {
-        return Ok(false);
-    };
-    let Some(rows) = read_input(rt, sheet)? else {
-        return Ok(false);
-    };
-    print_report(
-        rt,
-        file_report_with_sheet(rt.alloc(), bytes.as_slice(), rows.as_slice())?,
-    )
-}
-
-fn show_replies(rt: &HostRuntime, path: &str, site: &str, value: &str) -> anyhow::Result<bool> {
-    let (Ok(site), Ok(value)) = (site.parse::<u8>(), value.parse::<u16>()) else {
-        eprintln!(rt; "door: a site is 0 to 255, and a value 0 to 65535")?;
-        eprint!(rt; "{USAGE}")?;
-        return Ok(false);
-    };
-    let Some(bytes) = read_input(rt, path)? else {
-        return Ok(false);
-    };
-    print_report(
-        rt,
-        replies_report(rt.alloc(), bytes.as_slice(), site, value)?,
-    )
-}
-
-// Prints a report, and tells whether what it speaks of was accepted.
-fn print_report(rt: &HostRuntime, report: Report) -> anyhow::Result<bool> {
     let text = report.text.as_str();
     print!(rt; "{text}")?;
-    Ok(report.accepted)
-}
-
-// The bytes of a file, or nothing after a message that says why it can't be read.
-fn read_input(rt: &HostRuntime, path: &str) -> io::Result<Option<Vec<u8>>> {
-    match read_bytes(rt, path) {
-        Ok(bytes) => Ok(Some(bytes)),
-        Err(error) => {
-            eprintln!(rt; "door: {path}: {error}")?;
-            Ok(None)
-        }
+    if report.accepted {
+        Ok(ExitCode::SUCCESS)
+    } else {
+        Ok(ExitCode::FAILURE)
     }
 }
 
-// The bytes of a file, or somewhat more than the longest input if there are more.
+// The bytes of a file, as far as inputs are read.
+fn read<'a>(rt: &HostRuntime, path: &'a str) -> Result<Vec<u8>, Stop<'a>> {
+    read_bytes(rt, path).map_err(|error| Stop::Unread(path, error))
+}
+
 fn read_bytes(rt: &HostRuntime, path: &str) -> io::Result<Vec<u8>> {
-    let mut file = File::open(rt, path)?;
     let mut bytes = Vec::new(rt.alloc());
-    for _ in 0..u64::MAX {
-        let mut chunk = [0u8; 512];
-        let count = file.read(&mut chunk)?;
-        if count == 0 {
-            break;
-        }
-        bytes.extend_from_slice(&chunk[0..count])?;
-        if bytes.len() > LONGEST {
-            break;
-        }
-    }
+    File::open(rt, path)?
+        .take(MOST_READ)
+        .read_to_end(&mut bytes)?;
     Ok(bytes)
 }

@@ -2,7 +2,6 @@
 use Rattle.std.proofs.Common.{◌≡◌, ℕ, ◌+◌, ◌<◌, Bool, true, false, cond, eqb, List, [], ◌∷◌, count_by, filter, sym, refl, ap, ◌∙◌, subst, add-zero, arith}
 use Rattle.std.proofs.lemmas.Bool.{eq-eqb}
 use Rattle.orc.specs.Calls.{Pending}
-use Rattle.places.specs.Scans.{pendings_from}
 use Rattle.runs.proofs.Counts.{count_cons}
 use Rattle.runs.specs.States.{Totals}
 use Rattle.runs.specs.Tickets.{of_site, counted, added}
@@ -57,44 +56,43 @@ others_have_room t u cause p ps room counts =
       enough = λ site. omega (arith, room.enough site, ap (amount cause) (counts site), amount_added (of_site site) cause (totals_at t site) (p ∷ []), count_cons (of_site site) p ps, count_cons (of_site site) p []);
     }
 
--- A scan has come to an offset: those that end from there on are left to count, and there is room for them.
-pub record LeftToCount (f : Pending → Bool) (cause : Cause) (bs : List ℕ) (first now : Table) (at : ℕ) : Type 0 where
-  pub room : Room now cause (filter f (pendings_from bs at))
-  pub left : (site : ℕ) → added (totals_at now site) (counted (of_site site) (by_cause cause (filter f (pendings_from bs at)))) ≡ added (totals_at first site) (counted (of_site site) (by_cause cause (filter f (pendings_from bs 0))))
+-- Of all pending calls some are left: those of them that pass the test are left to count, and there is room for them.
+pub record LeftToCount (f : Pending → Bool) (cause : Cause) (all left : List Pending) (first now : Table) : Type 0 where
+  pub room : Room now cause (filter f left)
+  pub rest : (site : ℕ) → added (totals_at now site) (counted (of_site site) (by_cause cause (filter f left))) ≡ added (totals_at first site) (counted (of_site site) (by_cause cause (filter f all)))
 
-module _ (f : Pending → Bool) (cause : Cause) (bs : List ℕ) (first now : Table) (at : ℕ) where
-  module _ (p : Pending) (next : ℕ) (met : pendings_from bs at ≡ p ∷ pendings_from bs next) where
-    kept_first : f p ≡ true → filter f (pendings_from bs at) ≡ p ∷ filter f (pendings_from bs next)
-    kept_first t = ap (filter f) met ∙ ap (λ b. cond b (p ∷ filter f (pendings_from bs next)) (filter f (pendings_from bs next))) t
+module _ (f : Pending → Bool) (cause : Cause) (all left : List Pending) (first now : Table) (l : LeftToCount f cause all left first now) where
+  module _ (p : Pending) (next : List Pending) (met : left ≡ p ∷ next) where
+    kept_first : f p ≡ true → filter f left ≡ p ∷ filter f next
+    kept_first t = ap (filter f) met ∙ ap (λ b. cond b (p ∷ filter f next) (filter f next)) t
 
-    kept_not : f p ≡ false → filter f (pendings_from bs at) ≡ filter f (pendings_from bs next)
-    kept_not t = ap (filter f) met ∙ ap (λ b. cond b (p ∷ filter f (pendings_from bs next)) (filter f (pendings_from bs next))) t
+    kept_not : f p ≡ false → filter f left ≡ filter f next
+    kept_not t = ap (filter f) met ∙ ap (λ b. cond b (p ∷ filter f next) (filter f next)) t
 
-    pub can_count : LeftToCount f cause bs first now at → f p ≡ true → (p.site < 32) × (amount cause (totals_at now p.site) < 65535)
-    can_count l t = first_has_room now cause p _ (subst (Room now cause) (kept_first t) l.room)
+    pub can_count : f p ≡ true → (p.site < 32) × (amount cause (totals_at now p.site) < 65535)
+    can_count t = first_has_room now cause p _ (subst (Room now cause) (kept_first t) l.room)
 
-    pub counted_first : (then : Table) → LeftToCount f cause bs first now at → f p ≡ true → CountsIn now then (by_cause cause (p ∷ [])) → LeftToCount f cause bs first then next
-    counted_first then l t counts =
+    pub counted_first : (then : Table) → f p ≡ true → CountsIn now then (by_cause cause (p ∷ [])) → LeftToCount f cause all next first then
+    counted_first then t counts =
         record {
           room = others_have_room now then cause p _ (subst (Room now cause) (kept_first t) l.room) counts;
-          left = λ site.
-              ap (λ x. added x (counted (of_site site) (by_cause cause (filter f (pendings_from bs next))))) (counts site)
-              ∙ one_counted (of_site site) cause (totals_at now site) p (filter f (pendings_from bs next))
+          rest = λ site.
+              ap (λ x. added x (counted (of_site site) (by_cause cause (filter f next)))) (counts site)
+              ∙ one_counted (of_site site) cause (totals_at now site) p (filter f next)
               ∙ ap (λ ps. added (totals_at now site) (counted (of_site site) (by_cause cause ps))) (sym (kept_first t))
-              ∙ l.left site;
+              ∙ l.rest site;
         }
 
-    pub passed_first : LeftToCount f cause bs first now at → f p ≡ false → LeftToCount f cause bs first now next
-    passed_first l t =
+    pub passed_first : f p ≡ false → LeftToCount f cause all next first now
+    passed_first t =
         record {
           room = subst (Room now cause) (kept_not t) l.room;
-          left = λ site. ap (λ ps. added (totals_at now site) (counted (of_site site) (by_cause cause ps))) (sym (kept_not t)) ∙ l.left site;
+          rest = λ site. ap (λ ps. added (totals_at now site) (counted (of_site site) (by_cause cause ps))) (sym (kept_not t)) ∙ l.rest site;
         }
 
-  pub all_counted : LeftToCount f cause bs first now at → pendings_from bs at ≡ [] → (ps : List Pending) → pendings_from bs 0 ≡ ps → CountsIn first now (by_cause cause (filter f ps))
-  all_counted l end ps all =
+  pub all_counted : left ≡ [] → CountsIn first now (by_cause cause (filter f all))
+  all_counted end =
       λ site.
       sym (none_counted (of_site site) cause (totals_at now site))
       ∙ ap (λ ps. added (totals_at now site) (counted (of_site site) (by_cause cause (filter f ps)))) (sym end)
-      ∙ l.left site
-      ∙ ap (λ ps. added (totals_at first site) (counted (of_site site) (by_cause cause (filter f ps)))) all
+      ∙ l.rest site

@@ -1,18 +1,14 @@
 -- The state that a run's parts stand for, part by part, and the facts in its type. Assumes nothing.
-use Rattle.std.proofs.Common.{◌≡◌, ℕ, Bool, sym, subst}
-use Rattle.orc.specs.Files.{file_bytes}
+use Rattle.std.proofs.Common.{◌≡◌, ℕ, Option, sym, subst}
 use Rattle.forms.specs.Heads.{IsForm}
-use Rattle.files.specs.Contents.{file_of}
-use Rattle.walks.specs.Contents.{content}
-use Rattle.walks.specs.declared.buffer.Buffer.{Buffer}
+use Rattle.walks.specs.Contents.{Buffer, content}
 use Rattle.runs.specs.States.{State}
 use Rattle.runs.specs.Bounds.{Keeps}
 use Rattle.runs.specs.Facts.{FormalsBind, BodiesFit, StateFits, Facts}
 use Rattle.runs.proofs.Stating.{facts_of, kept_from}
-use Rattle.engine.specs.declared.record.Record.{Record}
 use Rattle.engine.specs.declared.table.Table.{Table}
 use Rattle.engine.specs.declared.plain.Plain.{Plain}
-use Rattle.engine.specs.Held.{held}
+use Rattle.engine.specs.Held.{Record, definitions_held, WholeFile, held}
 use Rattle.engine.specs.Stands.{state_of}
 
 -- states with equal parts are equal
@@ -20,8 +16,8 @@ pub same_state : {s t : State} → s.loaded ≡ t.loaded → s.definitions ≡ t
 same_state l d c e n m t = λ i. record { loaded = l i; definitions = d i; clock = c i; expression = e i; issued = n i; events = m i; totals = λ site. t site i }
 
 -- The facts in the type of a run, by its parts, from a state that keeps its bounds.
-module _ (loaded : Bool) (file : Buffer) (clock : ℕ) (form : Buffer) (issued : ℕ) (events : Record) (table : Table) where
-  pub given : {s : State} → held loaded file clock form issued events table ≡ s → Keeps s → file_bytes (file_of (content file)) ≡ content file → IsForm (content form) → (file_bytes (file_of (content file)) ≡ content file) × IsForm (content form) × FormalsBind (file_of (content file)).definitions × BodiesFit (file_of (content file)).definitions × StateFits (held loaded file clock form issued events table)
+module _ (file : Option Buffer) (clock : ℕ) (form : Buffer) (issued : ℕ) (events : Record) (table : Table) where
+  pub given : {s : State} → held file clock form issued events table ≡ s → Keeps s → WholeFile file → IsForm (content form) → WholeFile file × IsForm (content form) × FormalsBind (definitions_held file) × BodiesFit (definitions_held file) × StateFits (held file clock form issued events table)
   given is keeps whole_file whole_form =
       let facts = subst Facts (sym is) (facts_of keeps) in
       (whole_file, whole_form, facts.0, facts.1, facts.2)

@@ -12,8 +12,7 @@ use Rattle.orc.specs.Laws.{begun as made}
 use Rattle.forms.specs.Reading.{expression_of}
 use Rattle.forms.specs.Heads.{IsForm}
 use Rattle.forms.proofs.ReadBack.{read_back}
-use Rattle.walks.specs.Contents.{content}
-use Rattle.walks.specs.declared.buffer.Buffer.{Buffer}
+use Rattle.walks.specs.Contents.{Buffer, content}
 use Rattle.runs.specs.declared.call.Call.{Call}
 use Rattle.runs.specs.declared.call.Call.TheVariants.{Go, Answer, Wait}
 use Rattle.runs.specs.States.{State, world_of}
@@ -27,12 +26,11 @@ use Rattle.runs.proofs.Counts.{none_passes, all_pass}
 use Rattle.runs.proofs.Finding.{kept_only}
 use Rattle.runs.proofs.Standing.{reply_begins}
 use Rattle.runs.proofs.Ranging.{pending_pass, ranged_step, RangedAct}
-use Rattle.engine.specs.declared.record.Record.{Record}
 use Rattle.engine.specs.declared.table.Table.{Table}
 use Rattle.engine.specs.declared.table.Cause.TheVariants.{Called, Answered, Withdrawn, Lapsed}
 use Rattle.engine.specs.declared.plain.Plain.{Plain}
 use Rattle.engine.specs.Tallies.{totals_at, by_cause, CountsIn, Room}
-use Rattle.engine.specs.Held.{held, entries}
+use Rattle.engine.specs.Held.{Record, held, entries}
 use Rattle.engine.specs.Stands.{state_of}
 use Rattle.engine.specs.Moves.{MayBeMade, MayBeWaited}
 use Rattle.engine.proofs.Counting.{same_totals}
@@ -108,7 +106,7 @@ module _ (m : Meaning) (laws : Lawful m) (p : Plain) (c : Call) (a : Act) (gone 
   module _ (form : Buffer) (issued : ℕ) (events : Record) (table : Table) where
     pub moved_state : issued ≡ p.issued + length (made p.clock (suc p.issued) a) → entries events ≡ entries p.events ++ (record { tick = p.clock; act = a } ∷ []) → content form ≡ bs'
         → ((site : ℕ) → totals_at table site ≡ (stepped m (state_of p) c a gone (expression_of bs)).totals site)
-        → held p.loaded p.file p.clock form issued events table ≡ stepped m (state_of p) c a gone (expression_of bs)
+        → held p.file p.clock form issued events table ≡ stepped m (state_of p) c a gone (expression_of bs)
     moved_state i n f t = same_state refl refl refl (ap expression_of (f ∙ may.settles) ∙ read_back (settled m (state_of p) c (expression_of bs))) i n t
 
   pub moved_form : (form : Buffer) → content form ≡ bs' → IsForm (content form)
@@ -125,7 +123,7 @@ module _ (m : Meaning) (laws : Lawful m) (p : Plain) (n : ℕ) (a : Act) (bs bs'
 
   pub gone_state : (form : Buffer) (issued : ℕ) (events : Record) (table : Table) → CountsIn called table (by_cause Lapsed (filter (lapses m p.clock) (pending_calls (expression_of bs))))
       → issued ≡ length (made p.clock (suc p.issued) a) → entries events ≡ entries p.events ++ (record { tick = p.clock; act = a } ∷ []) → content form ≡ bs'
-      → held p.loaded p.file p.clock form (p.issued + issued) events table ≡ stepped m (state_of p) (Go n) a [] (expression_of bs)
+      → held p.file p.clock form (p.issued + issued) events table ≡ stepped m (state_of p) (Go n) a [] (expression_of bs)
   gone_state form issued events table second i es f =
       moved_state m laws p (Go n) a [] bs bs' may form (p.issued + issued) events table (ap (λ n. p.issued + n) i) es f (λ site.
       let x = first p.clock (suc p.issued) site in
@@ -175,7 +173,7 @@ module _ (m : Meaning) (laws : Lawful m) (p : Plain) (k v : ℕ) (a : Act) (gone
 
     pub answered_state : (form : Buffer) (events : Record) (table : Table) → CountsIn answered table (by_cause Withdrawn gone)
         → entries events ≡ entries p.events ++ (record { tick = p.clock; act = a } ∷ []) → content form ≡ bs'
-        → held p.loaded p.file p.clock form p.issued events table ≡ stepped m (state_of p) (Answer k v) a gone (expression_of bs)
+        → held p.file p.clock form p.issued events table ≡ stepped m (state_of p) (Answer k v) a gone (expression_of bs)
     answered_state form events table second es f =
         let none = none_called p.clock (suc p.issued) in
         moved_state m laws p (Answer k v) a gone bs bs' may form p.issued events table (sym (add-zero p.issued) ∙ ap (λ l. p.issued + length l) (sym none)) es f (λ site.
@@ -203,7 +201,7 @@ module _ (m : Meaning) (laws : Lawful m) (p : Plain) (d : ℕ) (bs' : List ℕ) 
       }
 
   pub waited_state : (form : Buffer) (table : Table) → CountsIn p.table table (by_cause Lapsed (filter (lapses m (p.clock + d)) (pending_calls (expression_of (content p.form))))) → content form ≡ bs'
-      → held p.loaded p.file (p.clock + d) form p.issued p.events table ≡ waited m (state_of p) d
+      → held p.file (p.clock + d) form p.issued p.events table ≡ waited m (state_of p) d
   waited_state form table counts f = same_state refl refl refl (ap expression_of (f ∙ may.settles) ∙ read_back (settled m (state_of p) (Wait d) (state_of p).expression)) refl refl counts
 
   pub waited_form : (form : Buffer) → content form ≡ bs' → IsForm (content form)

@@ -21,7 +21,7 @@ not_late true h = refl
 not_late false h = sym h
 
 -- The run p is to wait d ticks. Its form is read from its bytes again, and the clock then is a tick.
-module _ (m : Meaning) (p : Plain) (d : ℕ) (loaded : p.loaded ≡ true) (bs : List ℕ) (same : bs ≡ content p.form) (due : ℕ) (count : due ≡ due_count (expression_of bs)) where
+module _ (m : Meaning) (p : Plain) (d : ℕ) (loaded : (state_of p).loaded ≡ true) (bs : List ℕ) (same : bs ≡ content p.form) (due : ℕ) (count : due ≡ due_count (expression_of bs)) where
   counted : due ≡ due_count (state_of p).expression
   counted = count ∙ ap (λ l. due_count (expression_of l)) same
 

@@ -11,15 +11,15 @@ use Rattle.orc.specs.Steps.{Act}
 use Rattle.forms.specs.Reading.{expression_of}
 use Rattle.forms.specs.Heads.{IsForm, headed}
 use Rattle.forms.specs.declared.form.Head.{Head}
-use Rattle.forms.specs.declared.form.Head.TheVariants.{Stop, SiteCall, DefinitionCall, Parallel, Sequential, Pruning, Pending as Pending-call}
+use Rattle.forms.specs.declared.form.Head.TheVariants.{Stop, SiteCall, DefinitionCall, Parallel, Sequential, Pruning, Pending as PendingCall}
 use Rattle.forms.proofs.ReadBack.{bytes_read}
 use Rattle.files.specs.Contents.{file_of}
 use Rattle.walks.specs.Capacity.{capacity}
-use Rattle.walks.specs.Contents.{content}
+use Rattle.walks.specs.Contents.{Buffer, content}
 use Rattle.places.specs.Places.{due_place}
 use Rattle.places.specs.Scans.{ticket_place}
 use Rattle.places.specs.Frames.{nearest_frame}
-use Rattle.places.specs.declared.frames.Stretch.{Stretch}
+use Rattle.places.specs.declared.stretch.Stretch.{Stretch}
 use Rattle.places.proofs.Gaps.{before, after, bytes_filled, calls_before, calls_after, calls_filled}
 use Rattle.places.proofs.Locating.{ticket_located}
 use Rattle.places.proofs.Splicing.{replies_take_effect}
@@ -31,6 +31,7 @@ use Rattle.steps.specs.Replied.{Replied, publishes, spawns, binds}
 use Rattle.steps.specs.Laws.{withdrawn_with}
 use Rattle.steps.proofs.Transitions.{made_calls_are_transitions, due_calls_can_be_made, replies_are_transitions, replies_can_be_made}
 use Rattle.engine.specs.declared.plain.Plain.{Plain}
+use Rattle.engine.specs.Held.{definitions_held}
 use Rattle.engine.specs.Stands.{state_of}
 use Rattle.engine.specs.Moves.{Move, FormWithin, ReplyStep}
 use Rattle.engine.proofs.Given.{keeps}
@@ -40,7 +41,7 @@ form_short : (p : Plain) → length (content p.form) ≤ 4096
 form_short p = omega (arith, (keeps p).form_fits, ap length p.whole_form)
 
 -- Go looks for the due call n. The form and the file are read from their bytes again.
-module _ (p : Plain) (loaded : p.loaded ≡ true) (n : ℕ) (bs : List ℕ) (same : bs ≡ content p.form) where
+module _ (p : Plain) (loaded : (state_of p).loaded ≡ true) (n : ℕ) (bs : List ℕ) (same : bs ≡ content p.form) where
   pub none_due : (due : ℕ) → false ≡ ltb n (due_count (expression_of bs)) → due ≡ due_count (expression_of bs) → (m : Meaning) → Refuses m (state_of p) (Go n) (NoneDue due)
   none_due due few count m =
       let is : due ≡ due_count (state_of p).expression = count ∙ ap (λ l. due_count (expression_of l)) same in
@@ -63,10 +64,13 @@ module _ (p : Plain) (loaded : p.loaded ≡ true) (n : ℕ) (bs : List ℕ) (sam
     go_full full m = is_record_full loaded (made_takes can_be_made.0 can_be_made.1 can_be_made.2 m).0 full
 
     -- the call that was made, from the file's definitions, with the ticket as the code has it
-    module _ (file : List ℕ) (same-file : file ≡ content p.file) where
+    module _ (buffer : Buffer) (is_loaded : p.file ≡ Some buffer) (file : List ℕ) (same-file : file ≡ content buffer) where
+      same_definitions : (file_of file).definitions ≡ (state_of p).definitions
+      same_definitions = ap (λ f. (file_of f).definitions) same-file ∙ ap definitions_held (sym is_loaded)
+
       of_run : {a : Act} {bs' : List ℕ} → Made (file_of file).definitions p.clock (p.issued + 1) bs place a bs' → Made (state_of p).definitions p.clock (suc p.issued) (content p.form) place a bs'
       of_run {a} {bs'} made =
-          subst (λ f. Made (file_of f).definitions p.clock (suc p.issued) (content p.form) place a bs') same-file
+          subst (λ ds. Made ds p.clock (suc p.issued) (content p.form) place a bs') same_definitions
           (subst (λ l. Made (file_of file).definitions p.clock (suc p.issued) l place a bs') same
           (subst (λ k. Made (file_of file).definitions p.clock k bs place a bs') (add-one p.issued) made))
 
@@ -74,7 +78,7 @@ module _ (p : Plain) (loaded : p.loaded ≡ true) (n : ℕ) (bs : List ℕ) (sam
       to_run {a} {bs'} made =
           subst (λ k. Made (file_of file).definitions p.clock k bs place a bs') (sym (add-one p.issued))
           (subst (λ l. Made (file_of file).definitions p.clock (suc p.issued) l place a bs') (sym same)
-          (subst (λ f. Made (file_of f).definitions p.clock (suc p.issued) (content p.form) place a bs') (sym same-file) made))
+          (subst (λ ds. Made ds p.clock (suc p.issued) (content p.form) place a bs') (sym same_definitions) made))
 
       pub always_made : ((a : Act) (bs' : List ℕ) → Made (file_of file).definitions p.clock (p.issued + 1) bs place a bs' → capacity < length bs') → ⊥
       always_made none = omega (arith, none can_be_made.0 can_be_made.1 (to_run can_be_made.2), can_be_made.3)
@@ -91,22 +95,22 @@ form_within (spawns s h e) = tt
 form_within (binds s q h e same f) = (f.ordered, f.within, f.form)
 
 -- the head of a pending call
-pub pending_head : (h : Head) (k s v c : ℕ) → headed h ≡ pending k s v c → h ≡ Pending-call k s v c
+pub pending_head : (h : Head) (k s v c : ℕ) → headed h ≡ pending k s v c → h ≡ PendingCall (record { ticket = k; site = s; value = v; clock = c })
 pending_head Stop k s v c is = absurd (let z : ◌≡◌ {A = ℕ} 0 1 = cc in omega arith)
 pending_head (SiteCall x q) k s v c is = absurd (let z : ◌≡◌ {A = ℕ} 0 1 = cc in omega arith)
 pending_head (DefinitionCall x q) k s v c is = absurd (let z : ◌≡◌ {A = ℕ} 0 1 = cc in omega arith)
 pending_head (Parallel f g) k s v c is = absurd (let z : ◌≡◌ {A = ℕ} 0 1 = cc in omega arith)
 pending_head (Sequential x f g) k s v c is = absurd (let z : ◌≡◌ {A = ℕ} 0 1 = cc in omega arith)
 pending_head (Pruning x f g) k s v c is = absurd (let z : ◌≡◌ {A = ℕ} 0 1 = cc in omega arith)
-pending_head (Pending-call i x w t) k s v c is =
-    let a : i ≡ k = cc in
-    let b : x ≡ s = cc in
-    let d : w ≡ v = cc in
-    let e : t ≡ c = cc in
-    cc
+pending_head (PendingCall p) k s v c is =
+    let a : p.ticket ≡ k = cc in
+    let b : p.site ≡ s = cc in
+    let d : p.value ≡ v = cc in
+    let e : p.clock ≡ c = cc in
+    ap PendingCall (λ i. record { ticket = a i; site = b i; value = d i; clock = e i })
 
 -- Answer looks for the ticket j, and finds it at a place.
-module _ (p : Plain) (loaded : p.loaded ≡ true) (j place : ℕ) (found : ticket_place j (state_of p).expression ≡ Some place) where
+module _ (p : Plain) (loaded : (state_of p).loaded ≡ true) (j place : ℕ) (found : ticket_place j (state_of p).expression ≡ Some place) where
   pub call_whole : place + 12 ≤ length (content p.form)
   call_whole = (replies_take_effect (content p.form) j place p.whole_form (keeps p).expression_kept.unbegun (keeps p).expression_kept.distinct found).whole
 

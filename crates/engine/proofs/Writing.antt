@@ -1,8 +1,7 @@
 -- What is written into a buffer that holds nothing. Assumes nothing.
 use Rattle.std.proofs.Common.{◌≡◌, ℕ, ◌≤◌, List, [], ◌++◌, length, ap, ◌∙◌, arith}
 use Rattle.walks.specs.Capacity.{capacity}
-use Rattle.walks.specs.Contents.{content, Written, Unwritten}
-use Rattle.walks.specs.declared.buffer.Buffer.{Buffer}
+use Rattle.walks.specs.Contents.{Buffer, content, Written, Unwritten}
 
 module _ (before after : Buffer) (n : ℕ) (empty : content before ≡ []) where
   pub alone : (w : List ℕ) → Written before after n w → content after ≡ w

@@ -1,4 +1,5 @@
 pub mod Tallies
+pub mod Ended
 pub mod Held
 pub mod Loading
 pub mod Stands

@@ -7,7 +7,7 @@ use Rattle.orc.specs.Calls.{Pending, pending_calls}
 use Rattle.orc.specs.Steps.{Act, Pass}
 use Rattle.forms.specs.Reading.{expression_of}
 use Rattle.forms.specs.Heads.{IsForm}
-use Rattle.places.specs.declared.frames.Stretch.{Stretch}
+use Rattle.places.specs.declared.stretch.Stretch.{Stretch}
 use Rattle.steps.specs.Laws.{withdrawn_with}
 use Rattle.runs.specs.declared.call.Call.{Call}
 use Rattle.runs.specs.declared.call.Call.TheVariants.{Answer, Wait}

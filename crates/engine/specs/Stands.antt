@@ -6,7 +6,7 @@ use Rattle.engine.specs.Held.{held}
 use Rattle.engine.specs.declared.plain.Plain.{Plain}
 
 abbrev pub state_of : Plain → State
-state_of p = held p.loaded p.file p.clock p.form p.issued p.events p.table
+state_of p = held p.file p.clock p.form p.issued p.events p.table
 
 -- after a call that is refused, a run holds what it held before
 abbrev pub KeptIfRefused : Response → Plain → Plain → Type 0

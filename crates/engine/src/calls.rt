@@ -24,7 +24,7 @@ impl<H: Host + Copy> Run<H> {
         let step = self.plain.due_step(n)?;
         let form = settle(&self.host, &step.form, self.plain.clock);
         check_size(&form)?;
-        self.plain.gone(&self.host, step.act, &step.form, &form);
+        self.plain.gone(&self.host, &step, &form);
         Ok(())
     }
 
@@ -38,17 +38,14 @@ impl<H: Host + Copy> Run<H> {
         ensures refused { KeptIfRefused result self.old.plain self.new.plain }
         ensures host { self.new.host ≡ self.old.host }
     {
-        if !self.plain.loaded {
-            return Err(Refusal::NotLoaded);
-        }
+        self.plain.loaded_file()?;
         let Some(place) = self.plain.ticket_place(ticket) else {
             return Err(Refusal::NotStanding(ticket));
         };
         let (reply, site) = self.plain.reply_step(&self.host, ticket, place, value)?;
         let form = simplify(&reply.form);
         check_size(&form)?;
-        self.plain
-            .answered(reply.act, ticket, site, reply.pruned, &form);
+        self.plain.answered(ticket, site, &reply, &form);
         Ok(())
     }
 

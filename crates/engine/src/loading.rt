@@ -1,5 +1,5 @@
 // What a run holds when it begins.
-ghost use Rattle.std.specs.Prelude.{◌≡◌, ◌≤◌, length};
+ghost use Rattle.std.specs.Prelude.{◌≡◌, ◌≤◌, length, Some, None, MatchResult};
 ghost use Rattle.files.specs.Contents.{file_of};
 ghost use Rattle.walks.specs.Capacity.{capacity};
 ghost use Rattle.walks.specs.Contents.{content};
@@ -8,20 +8,22 @@ ghost use Rattle.engine.specs.Loading.{Accepted};
 ghost use Rattle.engine.specs.Stands.{state_of};
 
 use crate::plain::Plain;
-use crate::record::Record;
+use crate::record::{Record, UNUSED};
+use crate::settling::simplify;
 use crate::table::Table;
 use files::contents::Contents;
+use forms::command::Command;
+use runs::refusal::Refusal;
 use walks::buffer::Buffer;
-use walks::settling::simplify_into;
 
 // A buffer with bytes for which it has room.
 fn buffer_of(bytes: &[u8]) -> Buffer
     requires { length bytes.now ≤ capacity }
     ensures { content result ≡ bytes.now }
 {
-    let mut buffer = Buffer::new();
-    let Ok(()) = buffer.append(bytes) else {
-        unreachable()
+    let mut buffer = Buffer::new(0);
+    let Ok(()) = buffer.extend_from_slice(bytes) else {
+        unreachable!()
     };
     buffer
 }
@@ -32,14 +34,22 @@ impl Plain {
         ensures { state_of result ≡ states.unloaded }
     {
         Plain {
-            loaded: false,
-            file: buffer_of(&[0, 0]),
+            file: None,
             clock: 0,
-            form: buffer_of(&[0]),
+            form: buffer_of(&[Command::Stop as u8]),
             issued: 0,
-            events: Record::new(),
+            events: Record::new(UNUSED),
             table: Table::new(),
         }
+    }
+
+    // The file that is loaded. Without one every call is refused.
+    pub(crate) fn loaded_file(&self) -> Result<&Buffer, Refusal>
+        ensures { MatchResult result
+            (λ file. self.now.file ≡ Some file.now)
+            (λ f. (f ≡ Refusal.NotLoaded) × (self.now.file ≡ None)) }
+    {
+        self.file.as_ref().ok_or(Refusal::NotLoaded)
     }
 
     // For a file that was accepted.
@@ -47,17 +57,13 @@ impl Plain {
         requires { Accepted file.now }
         ensures { state_of result ≡ states.begun (file_of file.now) }
     {
-        let mut form = Buffer::new();
-        let Ok(()) = simplify_into(Contents::new(file).goal(), &mut form) else {
-            unreachable()
-        };
+        let goal = buffer_of(Contents::new(file).goal().as_bytes());
         Plain {
-            loaded: true,
-            file: buffer_of(file),
+            file: Some(buffer_of(file)),
             clock: 0,
-            form,
+            form: simplify(&goal),
             issued: 0,
-            events: Record::new(),
+            events: Record::new(UNUSED),
             table: Table::new(),
         }
     }

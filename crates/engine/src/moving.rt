@@ -13,14 +13,18 @@ ghost use Rattle.engine.specs.Tallies.{by_cause, CountsIn, Room};
 ghost use Rattle.engine.specs.Stands.{state_of};
 ghost use Rattle.engine.specs.Moves.{MayBeMade, FormWithin, MayBeAnswered, AnsweredSo, MayBeWaited};
 
-use crate::ended::{AllBut, Unreached, count_ended};
+use crate::ended::count_ended;
 use crate::plain::Plain;
+use crate::recording::record;
 use crate::table::{Cause, Table};
 use events::act::Act;
 use events::event::Event;
 use forms::form::Form;
 use hosts::host::Host;
-use places::frames::Stretch;
+use places::stretch::Stretch;
+use steps::reply::Reply;
+use steps::step::Step;
+use walks::ages::within_reach;
 use walks::buffer::Buffer;
 
 // Counts the site call that a transition made, if it made one, and tells how many it made.
@@ -44,11 +48,13 @@ fn count_lapsed<H: Host>(table: &mut Table, form: &Buffer, host: &H, tick: u32)
     requires room { Room table.old Cause.Lapsed (filter (lapses (H.Host.meaning host.now) tick) (pending_calls (expression_of (content form.now)))) }
     ensures { CountsIn table.old table.new (by_cause Cause.Lapsed (filter (lapses (H.Host.meaning host.now) tick) (pending_calls (expression_of (content form.now))))) }
 {
-    let unreached = Unreached {
-        host,
-        tick: u64::from(tick),
-    };
-    count_ended(table, Form::new(form.as_slice()), &unreached, Cause::Lapsed);
+    let form = Form::new(form.as_slice());
+    count_ended(
+        table,
+        form,
+        |call| !within_reach(host, call, u64::from(tick)),
+        Cause::Lapsed,
+    );
 }
 
 // Counts the pending calls that ended with a stretch of a form, all but the one with a ticket.
@@ -61,39 +67,33 @@ fn count_withdrawn(table: &mut Table, form: &Buffer, pruned: Option<Stretch>, ti
         return;
     };
     let ended = Form::new(&form.as_slice()[at..end]);
-    count_ended(table, ended, &AllBut { ticket }, Cause::Withdrawn);
+    count_ended(table, ended, |call| call.ticket != ticket, Cause::Withdrawn);
 }
 
 impl Plain {
-    // A due call was made: what it showed, the form that it left, and that form with what lapses ended, and simplified.
-    pub(crate) fn gone<H: Host>(&mut self, host: &H, act: Act, left: &Buffer, form: &Buffer)
-        requires { (n : ℕ) × MayBeMade (H.Host.meaning host.now) (state_of self.old) (Go n) (act_of act) [] (content left.now) (content form.now) }
-        ensures { state_of self.new ≡ stepped (H.Host.meaning host.now) (state_of self.old) (Go 0) (act_of act) [] (expression_of (content left.now)) }
+    // A due call was made, and the form that this left has its lapsed calls ended, and is simplified.
+    pub(crate) fn gone<H: Host>(&mut self, host: &H, step: &Step, form: &Buffer)
+        requires { (n : ℕ) × MayBeMade (H.Host.meaning host.now) (state_of self.old) (Go n) (act_of step.now.act) [] (content step.now.form) (content form.now) }
+        ensures { state_of self.new ≡ stepped (H.Host.meaning host.now) (state_of self.old) (Go 0) (act_of step.now.act) [] (expression_of (content step.now.form)) }
     {
+        let Step { act, .. } = *step;
         let clock = self.clock;
         self.issued += count_called(&mut self.table, act);
-        count_lapsed(&mut self.table, left, host, clock);
-        self.events.push(Event { clock, act });
+        count_lapsed(&mut self.table, &step.form, host, clock);
+        record(&mut self.events, Event { clock, act });
         self.form = *form;
     }
 
-    // A pending call was answered: what that showed, the ticket and the site of the call, the stretch of the form that ended
-    // with it, if one did, and the form that it left, simplified.
-    pub(crate) fn answered(
-        &mut self,
-        act: Act,
-        ticket: u32,
-        site: u8,
-        pruned: Option<Stretch>,
-        form: &Buffer,
-    )
-        requires { MayBeAnswered (state_of self.old) ticket site (act_of act) (content self.old.form) pruned (content form.now) }
-        ensures { AnsweredSo (state_of self.old) (state_of self.new) ticket (act_of act) (withdrawn_with ticket (content self.old.form) pruned) (content form.now) }
+    // The pending call of a ticket was answered, and the form that this left is simplified.
+    pub(crate) fn answered(&mut self, ticket: u32, site: u8, reply: &Reply, form: &Buffer)
+        requires { MayBeAnswered (state_of self.old) ticket site (act_of reply.now.act) (content self.old.form) reply.now.pruned (content form.now) }
+        ensures { AnsweredSo (state_of self.old) (state_of self.new) ticket (act_of reply.now.act) (withdrawn_with ticket (content self.old.form) reply.now.pruned) (content form.now) }
     {
+        let Reply { act, pruned, .. } = *reply;
         let clock = self.clock;
         self.table.count(site, Cause::Answered);
         count_withdrawn(&mut self.table, &self.form, pruned, ticket);
-        self.events.push(Event { clock, act });
+        record(&mut self.events, Event { clock, act });
         self.form = *form;
     }
 

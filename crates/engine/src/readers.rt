@@ -18,7 +18,7 @@ impl<H> Run<H> {
     pub fn is_loaded(&self) -> bool
         ensures { result ≡ (state_of self.now.plain).loaded }
     {
-        self.plain.loaded
+        self.plain.file.is_some()
     }
 
     // The clock, in ticks since begin.
@@ -46,11 +46,7 @@ impl<H> Run<H> {
     pub fn form_byte(&self, offset: usize) -> Option<u8>
         ensures { result ≡ entry (form_bytes (state_of self.now.plain).expression) offset }
     {
-        let form = self.form();
-        if offset >= form.len() {
-            return None;
-        }
-        Some(form[offset])
+        self.form().get(offset).copied()
     }
 
     // How many calls are due.
@@ -71,7 +67,7 @@ impl<H> Run<H> {
     pub fn event(&self, number: usize) -> Option<Event>
         ensures { option_map entry_of result ≡ entry (state_of self.now.plain).events number }
     {
-        self.plain.events.get(number)
+        self.plain.events.as_slice().get(number).copied()
     }
 
     // The totals of a site, if there is such a site: 0 to 31.

@@ -1,16 +1,16 @@
-// The record of a run in fixed memory.
-ghost use Rattle.std.specs.Prelude.{◌≡◌, ◌≤◌, length};
-
+// The record of a run, in fixed memory.
+use events::act::Act;
 use events::event::Event;
+use fixed::list::FixedList;
 
 // How many events a record can hold.
 pub(crate) const LONGEST: usize = 512;
 
-// Events, of which the first `len` have been recorded.
-#[derive(Clone, Copy)]
-pub(crate) struct Record {
-    pub(crate) events: [Event; LONGEST],
-    pub(crate) len: usize,
-    ghost whole: { length events ≡ 512 },
-    ghost few: { len ≤ 512 },
-}
+// The events that have been recorded, the oldest first.
+pub(crate) type Record = FixedList<Event, LONGEST>;
+
+// What a record has where nothing has been recorded yet.
+pub(crate) const UNUSED: Event = Event {
+    clock: 0,
+    act: Act::Inner,
+};

@@ -12,7 +12,8 @@ use forms::form::Form;
 use hosts::host::Host;
 use runs::refusal::Refusal;
 use walks::buffer::Buffer;
-use walks::settling::{settle_into, simplify_into};
+use walks::endless::Endless;
+use walks::settling::settle_into;
 
 // How many bytes the form of a run can have.
 const LARGEST_FORM: usize = 4096;
@@ -22,23 +23,19 @@ pub(crate) fn settle<H: Host>(host: &H, left: &Buffer, tick: u32) -> Buffer
     requires { IsForm (content left.now) }
     ensures { content result ≡ form_bytes (simplified (lapsed (H.Host.meaning host.now) tick (expression_of (content left.now)))) }
 {
-    let mut form = Buffer::new();
+    let mut form = Buffer::new(0);
     let Ok(()) = settle_into(host, Form::new(left.as_slice()), u64::from(tick), &mut form) else {
-        unreachable()
+        unreachable!()
     };
     form
 }
 
-// A form simplified.
+// A form simplified, with every pending call left.
 pub(crate) fn simplify(left: &Buffer) -> Buffer
     requires { IsForm (content left.now) }
     ensures { content result ≡ form_bytes (simplified (expression_of (content left.now))) }
 {
-    let mut form = Buffer::new();
-    let Ok(()) = simplify_into(Form::new(left.as_slice()), &mut form) else {
-        unreachable()
-    };
-    form
+    settle(&Endless, left, 0)
 }
 
 // Refuses a form that is larger than a run can hold.

@@ -31,9 +31,7 @@ impl Plain {
             (λ s. (m : Meaning) → Move m (state_of self.now) (Go n) (act_of s.act) [] (content s.form))
             (λ f. (m : Meaning) → Refuses m (state_of self.now) (Go n) f) }
     {
-        if !self.loaded {
-            return Err(Refusal::NotLoaded);
-        }
+        let file = self.loaded_file()?;
         let form = Form::new(self.form.as_slice());
         let Some(place) = due_place(form, n as usize) else {
             return Err(Refusal::NoneDue(due_count(form)));
@@ -41,9 +39,9 @@ impl Plain {
         if self.events.len() >= LONGEST {
             return Err(Refusal::RecordFull);
         }
-        let contents = Contents::new(self.file.as_slice());
+        let contents = Contents::new(file.as_slice());
         let Some(step) = make_call(form, place, contents, self.issued + 1, self.clock) else {
-            unreachable()
+            unreachable!()
         };
         Ok(step)
     }
@@ -65,30 +63,24 @@ impl Plain {
         place: usize,
         value: u16,
     ) -> Result<(Reply, u8), Refusal>
-        requires { (self.now.loaded ≡ true) × (ticket_place ticket (state_of self.now).expression ≡ Some place) }
+        requires { ((state_of self.now).loaded ≡ true) × (ticket_place ticket (state_of self.now).expression ≡ Some place) }
         ensures { MatchResult result
             (λ x. ReplyStep (H.Host.meaning host.now) (state_of self.now) ticket value x.1 (act_of x.0.act) (content self.now.form) x.0.pruned (content x.0.form))
             (λ f. Refuses (H.Host.meaning host.now) (state_of self.now) (Answer ticket value) f) }
     {
         let bytes = self.form.as_slice();
-        let Head::Pending {
-            site,
-            value: argument,
-            clock: since,
-            ..
-        } = Form::new(&bytes[place..bytes.len()]).head()
-        else {
-            unreachable()
+        let Head::Pending(call) = Form::new(&bytes[place..]).head() else {
+            unreachable!()
         };
-        if !can_reply(host, site, argument, since, u64::from(self.clock), value) {
+        if !can_reply(host, call, u64::from(self.clock), value) {
             return Err(Refusal::OutsideEveryWindow(ticket));
         }
         if self.events.len() >= LONGEST {
             return Err(Refusal::RecordFull);
         }
         let Some(reply) = make_reply(Form::new(bytes), place, value) else {
-            unreachable()
+            unreachable!()
         };
-        Ok((reply, site))
+        Ok((reply, call.site))
     }
 }

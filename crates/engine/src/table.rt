@@ -5,7 +5,7 @@ ghost use Rattle.std.specs.Prelude.{◌≡◌, length};
 pub(crate) const SITES: usize = 32;
 
 // Tickets of one site, counted by what became of them.
-#[derive(Clone, Copy, PartialEq, Eq, Debug)]
+#[derive(Clone, Copy, PartialEq, Eq, Debug, Default)]
 pub struct Totals {
     pub(crate) called: u16,
     pub(crate) answered: u16,

@@ -11,14 +11,8 @@ impl Table {
     pub(crate) fn new() -> Table
         ensures { (site : ℕ) → totals_at result site ≡ no_totals }
     {
-        let empty = Totals {
-            called: 0,
-            answered: 0,
-            withdrawn: 0,
-            lapsed: 0,
-        };
         Table {
-            lines: [empty; SITES],
+            lines: [Totals::default(); SITES],
         }
     }
 
@@ -26,10 +20,7 @@ impl Table {
     pub(crate) fn get(&self, site: u8) -> Option<Totals>
         ensures { MatchOption result (32 ≤ site) (λ t. (site < 32) × (totals_of t ≡ totals_at self.now site)) }
     {
-        if usize::from(site) >= SITES {
-            return None;
-        }
-        Some(self.lines[usize::from(site)])
+        self.lines.get(usize::from(site)).copied()
     }
 
     // Counts one ticket of a site, for which there is room.

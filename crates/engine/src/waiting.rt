@@ -12,12 +12,12 @@ use crate::plain::Plain;
 use forms::form::Form;
 use hosts::host::Host;
 use places::due::due_count;
-use places::tickets::pending_after;
+use places::tickets::pending_calls;
 use runs::refusal::Refusal;
 use walks::ages::can_stand;
 
 // The last tick that a clock can show.
-const LAST_CLOCK: u64 = 4294967294;
+const LAST_CLOCK: u64 = 4_294_967_294;
 
 // The ticket of the first pending call of a form that cannot be unanswered at a tick.
 fn first_late<H: Host>(host: &H, form: Form, tick: u64) -> Option<u32>
@@ -26,14 +26,9 @@ fn first_late<H: Host>(host: &H, form: Form, tick: u64) -> Option<u32>
         (AllByRecursion (λ p. late (H.Host.meaning host.now) tick p ≡ false) (pending_calls (expression form.entry)))
         (λ k. (p : Pending) × First (late (H.Host.meaning host.now) tick) (pending_calls (expression form.entry)) p × (p.ticket ≡ k)) }
 {
-    let mut at = 0;
-    while let Some((next, call)) = pending_after(form, at) {
-        if !can_stand(host, call.site, call.value, call.clock, tick) {
-            return Some(call.ticket);
-        }
-        at = next;
-    }
-    None
+    pending_calls(form)
+        .find(|placed| !can_stand(host, placed.call, tick))
+        .map(|placed| placed.call.ticket)
 }
 
 impl Plain {
@@ -43,9 +38,7 @@ impl Plain {
             (λ _. CanPass (H.Host.meaning host.now) (state_of self.now) ticks)
             (λ f. Refuses (H.Host.meaning host.now) (state_of self.now) (Wait ticks) f) }
     {
-        if !self.loaded {
-            return Err(Refusal::NotLoaded);
-        }
+        self.loaded_file()?;
         let form = Form::new(self.form.as_slice());
         let due = due_count(form);
         if ticks > 0 && due > 0 {

@@ -3,6 +3,7 @@
 
 use files::check::check_file;
 use files::contents::read_file;
+use formats::fault::Fault;
 use forms::ends::form_end;
 use forms::exact::expression_form;
 use hosts::host::Host;
@@ -10,49 +11,33 @@ use hosts::local::Local;
 use hosts::pair::Pair;
 use std::alloc::{AllocError, Global};
 use std::io;
+use verdicts::reason::Reason;
 
 const STOP: [u8; 1] = [0];
 
-// Let of a value, and let of a variable.
+// The local sites twice: 0 to 3, and 4 to 7.
+const TWICE: Pair<Local, Local> = Pair {
+    first: Local,
+    second: Local,
+    split: 4,
+};
+
+// Let with a mark, 0 for a value and 1 for a variable, and a number.
+fn let_with(mark: u8, number: u16) -> [u8; 5] {
+    let [high, low] = number.to_be_bytes();
+    [1, 0, mark, high, low]
+}
+
 fn value(number: u16) -> [u8; 5] {
-    let n = number.to_be_bytes();
-    [1, 0, 0, n[0], n[1]]
+    let_with(0, number)
 }
 
 fn variable(number: u16) -> [u8; 5] {
-    let n = number.to_be_bytes();
-    [1, 0, 1, n[0], n[1]]
+    let_with(1, number)
 }
 
-// The parts one after another.
-fn joined(heap: Global, parts: &[&[u8]]) -> Result<Vec<u8>, AllocError> {
-    let mut all = Vec::new(heap);
-    for part in parts {
-        all.extend_from_slice(*part)?;
-    }
-    Ok(all)
-}
-
-// Some bytes, so many times, and others behind them.
-fn repeated(
-    heap: Global,
-    first: &[u8],
-    bytes: &[u8],
-    times: u16,
-    last: &[u8],
-    more: u16,
-) -> Result<Vec<u8>, AllocError> {
-    let mut all = Vec::new(heap);
-    all.extend_from_slice(first)?;
-    for _ in 0..times {
-        all.extend_from_slice(bytes)?;
-    }
-    for _ in 0..more {
-        all.extend_from_slice(last)?;
-    }
-    Ok(all)
-}
-
+// What comes of a file.
+// Kept: `sheet_cases` prints the same line of a sheet. A crate for this one match would be longer than the match.
 fn show<H: Host>(rt: &HostRuntime, host: &H, name: &str, bytes: &[u8]) -> io::Result<()> {
     let length = bytes.len();
     match check_file(host, bytes) {
@@ -61,76 +46,91 @@ fn show<H: Host>(rt: &HostRuntime, host: &H, name: &str, bytes: &[u8]) -> io::Re
     }
 }
 
-// A file without definitions, over the local sites.
+// Files over the local sites.
+fn files(rt: &HostRuntime, files: &[(&str, &[u8])]) -> io::Result<()> {
+    for (name, bytes) in files {
+        show(rt, &Local, name, bytes)?;
+    }
+    Ok(())
+}
+
+// A file without definitions, over the local sites, its goal given in parts.
 fn goal(rt: &HostRuntime, name: &str, parts: &[&[u8]]) -> io::Result<()> {
-    let form = joined(rt.alloc(), parts)?;
-    let file = joined(rt.alloc(), &[&[0], form.as_slice()])?;
+    let heap = rt.alloc();
+    let form = parts.concat(heap)?;
+    let file = [[0].as_slice(), form.as_slice()].concat(heap)?;
     show(rt, &Local, name, file.as_slice())
 }
 
+fn goals(rt: &HostRuntime, goals: &[(&str, &[u8])]) -> io::Result<()> {
+    for (name, form) in goals {
+        goal(rt, name, &[form])?;
+    }
+    Ok(())
+}
+
 fn counts(rt: &HostRuntime) -> io::Result<()> {
-    let heap = rt.alloc();
-    show(rt, &Local, "empty", &[])?;
-    show(rt, &Local, "a count alone", &[0])?;
-    show(rt, &Local, "stop", &[0, 0])?;
-    show(
+    files(
         rt,
-        &Local,
-        "16 definitions",
-        repeated(heap, &[16], &[31, 0, 1, 0], 16, &STOP, 1)?.as_slice(),
+        &[("empty", &[]), ("a count alone", &[0]), ("stop", &[0, 0])],
     )?;
-    show(
-        rt,
-        &Local,
-        "17 definitions",
-        repeated(heap, &[17], &[31, 0, 1, 0], 17, &STOP, 1)?.as_slice(),
-    )?;
-    show(rt, &Local, "count 17, cut behind it", &[17])
+    for (name, count) in [("16 definitions", 16), ("17 definitions", 17)] {
+        let definitions = [31, 0, 1, 0].repeat(rt.alloc(), usize::from(count))?;
+        let file = [[count].as_slice(), definitions.as_slice(), &STOP].concat(rt.alloc())?;
+        show(rt, &Local, name, file.as_slice())?;
+    }
+    files(rt, &[("count 17, cut behind it", &[17])])
 }
 
 fn commands(rt: &HostRuntime) -> io::Result<()> {
-    goal(
+    goals(
         rt,
-        "a pending call",
-        &[&[6, 0, 0, 0, 1, 0, 0, 0, 0, 0, 0, 0]],
-    )?;
-    goal(rt, "command 7", &[&[7]])?;
-    goal(rt, "a row of a sheet", &[&[0x10, 0, 0, 0, 0, 0, 1]])?;
-    goal(rt, "a window of a sheet", &[&[0x11]])?;
-    goal(rt, "command 255", &[&[255]])?;
-    goal(rt, "command 6 in the left part", &[&[3, 6, 0]])?;
-    goal(rt, "command 6 in the right part", &[&[3, 0, 6]])?;
-    goal(rt, "a byte behind the form", &[&[0, 0]])?;
-    goal(rt, "a byte behind two parts", &[&[3, 0, 0, 255]])
+        &[
+            ("a pending call", &[6, 0, 0, 0, 1, 0, 0, 0, 0, 0, 0, 0]),
+            ("command 7", &[7]),
+            ("a row of a sheet", &[0x10, 0, 0, 0, 0, 0, 1]),
+            ("a window of a sheet", &[0x11]),
+            ("command 255", &[255]),
+            ("command 6 in the left part", &[3, 6, 0]),
+            ("command 6 in the right part", &[3, 0, 6]),
+            ("a byte behind the form", &[0, 0]),
+            ("a byte behind two parts", &[3, 0, 0, 255]),
+        ],
+    )
 }
 
 fn calls(rt: &HostRuntime) -> io::Result<()> {
-    goal(rt, "site 3", &[&[1, 3, 0, 0, 0]])?;
-    goal(rt, "site 4", &[&[1, 4, 0, 0, 0]])?;
-    goal(rt, "site 31", &[&[1, 31, 0, 0, 0]])?;
-    goal(rt, "site 32", &[&[1, 32, 0, 0, 0]])?;
-    goal(rt, "site 4, cut behind it", &[&[1, 4]])?;
-    goal(rt, "site 32, cut behind it", &[&[1, 32]])?;
-    goal(rt, "mark 2", &[&[1, 0, 2, 0, 0]])?;
-    goal(rt, "mark 2, cut behind it", &[&[1, 0, 2]])?;
-    goal(rt, "value 65535", &[&value(65535)])?;
-    goal(rt, "variable 3 free", &[&variable(3)])?;
-    goal(rt, "variable 32", &[&variable(32)])?;
-    goal(rt, "variable 256", &[&variable(256)])?;
-    goal(rt, "definition 0 of none", &[&[2, 0, 0, 0, 0]])?;
-    goal(rt, "definition 255, cut behind it", &[&[2, 255]])?;
-    goal(rt, "definition 0 of none, with mark 2", &[&[2, 0, 2, 0, 0]])
+    goals(
+        rt,
+        &[
+            ("site 3", &[1, 3, 0, 0, 0]),
+            ("site 4", &[1, 4, 0, 0, 0]),
+            ("site 31", &[1, 31, 0, 0, 0]),
+            ("site 32", &[1, 32, 0, 0, 0]),
+            ("site 4, cut behind it", &[1, 4]),
+            ("site 32, cut behind it", &[1, 32]),
+            ("mark 2", &[1, 0, 2, 0, 0]),
+            ("mark 2, cut behind it", &[1, 0, 2]),
+            ("value 65535", &value(65535)),
+            ("variable 3 free", &variable(3)),
+            ("variable 32", &variable(32)),
+            ("variable 256", &variable(256)),
+            ("definition 0 of none", &[2, 0, 0, 0, 0]),
+            ("definition 255, cut behind it", &[2, 255]),
+            ("definition 0 of none, with mark 2", &[2, 0, 2, 0, 0]),
+        ],
+    )
 }
 
 fn pairs(rt: &HostRuntime) -> io::Result<()> {
-    let host = Pair {
-        first: Local,
-        second: Local,
-        split: 4,
-    };
-    show(rt, &host, "pair, site 7", &[0, 1, 7, 0, 0, 0])?;
-    show(rt, &host, "pair, site 8", &[0, 1, 8, 0, 0, 0])?;
-    show(rt, &host, "pair, site 32", &[0, 1, 32, 0, 0, 0])
+    for (name, site) in [
+        ("pair, site 7", 7),
+        ("pair, site 8", 8),
+        ("pair, site 32", 32),
+    ] {
+        show(rt, &TWICE, name, &[0, 1, site, 0, 0, 0])?;
+    }
+    Ok(())
 }
 
 fn scopes(rt: &HostRuntime) -> io::Result<()> {
@@ -158,136 +158,90 @@ fn scopes(rt: &HostRuntime) -> io::Result<()> {
     goal(rt, "sequential with 31", &[&[4, 31], &STOP, &variable(31)])?;
     goal(rt, "sequential with 32", &[&[4, 32], &STOP, &variable(32)])?;
     goal(rt, "pruning with 32, cut behind it", &[&[5, 32]])?;
-    goal(rt, "another variable", &[&[4, 5], &STOP, &variable(4)])?;
-    Ok(())
+    goal(rt, "another variable", &[&[4, 5], &STOP, &variable(4)])
 }
 
 // A variable that is bound more than once, or elsewhere.
 fn nested_scopes(rt: &HostRuntime) -> io::Result<()> {
-    goal(
-        rt,
-        "bound around",
-        &[&[4, 5], &STOP, &[5, 6], &variable(5), &variable(5)],
-    )?;
-    goal(
-        rt,
-        "bound twice",
-        &[&[4, 5], &STOP, &[5, 5], &variable(5), &variable(5)],
-    )?;
+    let x = &variable(5);
+    let y = &variable(6);
+    goal(rt, "bound around", &[&[4, 5], &STOP, &[5, 6], x, x])?;
+    goal(rt, "bound twice", &[&[4, 5], &STOP, &[5, 5], x, x])?;
     goal(
         rt,
         "bound twice, once left",
-        &[&[5, 5], &[5, 5], &variable(5), &STOP, &variable(5)],
+        &[&[5, 5], &[5, 5], x, &STOP, x],
     )?;
-    goal(
-        rt,
-        "no more bound behind",
-        &[&[3, 4, 5], &STOP, &variable(5), &variable(5)],
-    )?;
-    goal(
-        rt,
-        "no more bound below",
-        &[&[5, 5], &[3], &variable(5), &variable(6), &STOP],
-    )
+    goal(rt, "no more bound behind", &[&[3, 4, 5], &STOP, x, x])?;
+    goal(rt, "no more bound below", &[&[5, 5], &[3], x, y, &STOP])
 }
 
 fn definitions(rt: &HostRuntime) -> io::Result<()> {
-    show(rt, &Local, "formal 31", &[1, 31, 0, 1, 0, 0])?;
-    show(rt, &Local, "formal 32", &[1, 32, 0, 1, 0, 0])?;
-    show(rt, &Local, "formal 32, cut behind it", &[1, 32])?;
-    show(rt, &Local, "no formal", &[1])?;
-    show(rt, &Local, "no length", &[1, 0])?;
-    show(rt, &Local, "half a length", &[1, 0, 0])?;
-    show(
+    files(
         rt,
-        &Local,
-        "length past the end of the file",
-        &[1, 0, 0, 3, 255, 0],
-    )?;
-    show(
-        rt,
-        &Local,
-        "length up to the end of the file",
-        &[1, 0, 0, 1, 0],
-    )?;
-    show(rt, &Local, "length 0", &[1, 0, 0, 0, 0])?;
-    Ok(())
+        &[
+            ("formal 31", &[1, 31, 0, 1, 0, 0]),
+            ("formal 32", &[1, 32, 0, 1, 0, 0]),
+            ("formal 32, cut behind it", &[1, 32]),
+            ("no formal", &[1]),
+            ("no length", &[1, 0]),
+            ("half a length", &[1, 0, 0]),
+            ("length past the end of the file", &[1, 0, 0, 3, 255, 0]),
+            ("length up to the end of the file", &[1, 0, 0, 1, 0]),
+            ("length 0", &[1, 0, 0, 0, 0]),
+        ],
+    )
 }
 
 // The end that a definition's form may pass.
 fn definition_forms(rt: &HostRuntime) -> io::Result<()> {
-    show(
+    files(
         rt,
-        &Local,
-        "form past the end of its definition",
-        &[1, 0, 0, 2, 3, 0, 0, 0],
-    )?;
-    show(
-        rt,
-        &Local,
-        "operand past the end of its definition",
-        &[1, 0, 0, 3, 1, 0, 0, 0, 0],
-    )?;
-    show(
-        rt,
-        &Local,
-        "form short of the end of its definition",
-        &[1, 0, 0, 2, 0, 0, 0],
-    )?;
-    show(
-        rt,
-        &Local,
-        "unknown command in a definition",
-        &[1, 0, 0, 1, 6, 0],
-    )?;
-    show(
-        rt,
-        &Local,
-        "formal in its definition",
-        &[1, 7, 0, 5, 1, 0, 1, 0, 7, 0],
-    )?;
-    show(
-        rt,
-        &Local,
-        "other variable in a definition",
-        &[1, 7, 0, 5, 1, 0, 1, 0, 6, 0],
-    )?;
-    show(
-        rt,
-        &Local,
-        "formal in the goal",
-        &[1, 7, 0, 1, 0, 1, 0, 1, 0, 7],
-    )?;
-    Ok(())
+        &[
+            (
+                "form past the end of its definition",
+                &[1, 0, 0, 2, 3, 0, 0, 0],
+            ),
+            (
+                "operand past the end of its definition",
+                &[1, 0, 0, 3, 1, 0, 0, 0, 0],
+            ),
+            (
+                "form short of the end of its definition",
+                &[1, 0, 0, 2, 0, 0, 0],
+            ),
+            ("unknown command in a definition", &[1, 0, 0, 1, 6, 0]),
+            ("formal in its definition", &[1, 7, 0, 5, 1, 0, 1, 0, 7, 0]),
+            (
+                "other variable in a definition",
+                &[1, 7, 0, 5, 1, 0, 1, 0, 6, 0],
+            ),
+            ("formal in the goal", &[1, 7, 0, 1, 0, 1, 0, 1, 0, 7]),
+        ],
+    )
 }
 
 // What one definition is to another.
 fn definition_scopes(rt: &HostRuntime) -> io::Result<()> {
-    show(
+    files(
         rt,
-        &Local,
-        "formal of the definition before",
-        &[2, 7, 0, 1, 0, 8, 0, 5, 1, 0, 1, 0, 7, 0],
-    )?;
-    show(
-        rt,
-        &Local,
-        "definition 1 called from definition 0",
-        &[2, 0, 0, 5, 2, 1, 0, 0, 0, 0, 0, 1, 0, 0],
-    )?;
-    show(
-        rt,
-        &Local,
-        "definition 2 of 2",
-        &[2, 0, 0, 1, 0, 0, 0, 5, 2, 2, 0, 0, 0, 0],
-    )?;
-    show(
-        rt,
-        &Local,
-        "second definition cut short",
-        &[2, 0, 0, 1, 0, 0, 0, 5, 2],
-    )?;
-    show(rt, &Local, "no goal", &[1, 0, 0, 1, 0])
+        &[
+            (
+                "formal of the definition before",
+                &[2, 7, 0, 1, 0, 8, 0, 5, 1, 0, 1, 0, 7, 0],
+            ),
+            (
+                "definition 1 called from definition 0",
+                &[2, 0, 0, 5, 2, 1, 0, 0, 0, 0, 0, 1, 0, 0],
+            ),
+            (
+                "definition 2 of 2",
+                &[2, 0, 0, 1, 0, 0, 0, 5, 2, 2, 0, 0, 0, 0],
+            ),
+            ("second definition cut short", &[2, 0, 0, 1, 0, 0, 0, 5, 2]),
+            ("no goal", &[1, 0, 0, 1, 0]),
+        ],
+    )
 }
 
 // Every cut of a file.
@@ -295,123 +249,66 @@ fn cuts(rt: &HostRuntime) -> io::Result<()> {
     let whole = sample(rt.alloc())?;
     let bytes = whole.as_slice();
     for end in 0..bytes.len() {
-        show(rt, &Local, "cut", &bytes[0..end])?;
+        show(rt, &Local, "cut", &bytes[..end])?;
     }
     show(rt, &Local, "whole", bytes)
 }
 
 // A file with each command.
 fn sample(heap: Global) -> Result<Vec<u8>, AllocError> {
-    joined(
-        heap,
-        &[
-            &[1, 9, 0, 12, 5, 3],
-            &variable(3),
-            &variable(9),
-            &[4, 2],
-            &value(7),
-            &[3, 2, 0, 1, 0, 2],
-            &STOP,
-        ],
-    )
+    [
+        [1, 9, 0, 12, 5, 3].as_slice(),
+        &variable(3),
+        &variable(9),
+        &[4, 2],
+        &value(7),
+        &[3, 2, 0, 1, 0, 2],
+        &STOP,
+    ]
+    .concat(heap)
 }
 
-// As deep as it goes.
+// As deep as it goes: so many commands, some with a part behind each, and so many stops behind them all.
 fn nesting(rt: &HostRuntime) -> io::Result<()> {
     let heap = rt.alloc();
-    show(
-        rt,
-        &Local,
-        "4,095 parallels without parts",
-        repeated(heap, &[0], &[3], 4095, &[], 0)?.as_slice(),
-    )?;
-    show(
-        rt,
-        &Local,
-        "4,096 parallels without parts",
-        repeated(heap, &[0], &[3], 4096, &[], 0)?.as_slice(),
-    )?;
-    show(
-        rt,
-        &Local,
-        "2,047 parallels, to the left",
-        repeated(heap, &[0], &[3], 2047, &STOP, 2048)?.as_slice(),
-    )?;
-    show(
-        rt,
-        &Local,
-        "2,047 parallels, to the right",
-        repeated(heap, &[0], &[3, 0], 2047, &STOP, 1)?.as_slice(),
-    )?;
+    let table: [(&str, &[u8], usize, usize); 9] = [
+        ("4,095 parallels without parts", &[3], 4095, 0),
+        ("4,096 parallels without parts", &[3], 4096, 0),
+        ("2,047 parallels, to the left", &[3], 2047, 2048),
+        ("2,047 parallels, to the right", &[3, 0], 2047, 1),
+        ("1,365 prunings, to the left", &[5, 31], 1365, 1365),
+        ("1,364 prunings, to the left", &[5, 31], 1364, 1365),
+        ("1,364 sequentials, to the right", &[4, 31, 0], 1364, 1),
+        ("4,096 bytes, one too many", &[3], 2047, 2049),
+        ("wide", &[3, 1, 0, 0, 1, 1], 682, 1),
+    ];
+    for (name, command, times, stops) in table {
+        let commands = command.repeat(heap, times)?;
+        let stops = STOP.repeat(heap, stops)?;
+        goal(rt, name, &[commands.as_slice(), stops.as_slice()])?;
+    }
     Ok(())
 }
 
-// The same with binders.
-fn deep_binders(rt: &HostRuntime) -> io::Result<()> {
-    let heap = rt.alloc();
-    show(
-        rt,
-        &Local,
-        "1,365 prunings, to the left",
-        repeated(heap, &[0], &[5, 31], 1365, &STOP, 1365)?.as_slice(),
-    )?;
-    show(
-        rt,
-        &Local,
-        "1,364 prunings, to the left",
-        repeated(heap, &[0], &[5, 31], 1364, &STOP, 1365)?.as_slice(),
-    )?;
-    show(
-        rt,
-        &Local,
-        "1,364 sequentials, to the right",
-        repeated(heap, &[0], &[4, 31, 0], 1364, &STOP, 1)?.as_slice(),
-    )?;
-    show(
-        rt,
-        &Local,
-        "4,096 bytes, one too many",
-        repeated(heap, &[0], &[3], 2047, &STOP, 2049)?.as_slice(),
-    )?;
-    show(
-        rt,
-        &Local,
-        "wide",
-        repeated(heap, &[0], &[3, 1, 0, 0, 1, 1], 682, &STOP, 1)?.as_slice(),
-    )
-}
-
 // How many files came to what, by the fault's number, 0 for accepted; and a sum over all of the verdicts in order.
-#[derive(Clone, Copy)]
+#[derive(Clone, Copy, Default)]
 struct Tally {
     counts: [u32; 9],
     sum: u32,
 }
 
 impl Tally {
-    fn new() -> Tally {
-        Tally {
-            counts: [0; 9],
-            sum: 0,
-        }
-    }
-
-    fn add<H: Host>(&mut self, host: &H, bytes: &[u8]) {
-        let (number, place) = match check_file(host, bytes) {
+    fn add(&mut self, verdict: Result<(), Fault>) {
+        let (number, place) = match verdict {
             Ok(()) => (0, 0),
             Err(fault) => (fault.number(), fault.place()),
         };
-        let index = usize::from(number);
-        if index < 9 {
-            self.counts[index] = self.counts[index].wrapping_add(1);
+        if let Some(count) = self.counts.get_mut(usize::from(number)) {
+            *count = count.wrapping_add(1);
         }
-        let low = (place % 65536) as u32;
-        self.sum = self
-            .sum
-            .wrapping_mul(31)
-            .wrapping_add(u32::from(number))
-            .wrapping_mul(31)
-            .wrapping_add(low);
+        for part in [u32::from(number), (place % 65536) as u32] {
+            self.sum = self.sum.wrapping_mul(31).wrapping_add(part);
+        }
     }
 
     fn show(&self, rt: &HostRuntime, name: &str) -> io::Result<()> {
@@ -427,52 +324,46 @@ impl Tally {
 // Each byte of a file in turn replaced by each other.
 fn damaged(rt: &HostRuntime) -> io::Result<()> {
     let mut file = sample(rt.alloc())?;
-    let mut tally = Tally::new();
+    let mut tally = Tally::default();
     for at in 0..file.len() {
         let kept = file[at];
         for byte in 0..=255 {
             file[at] = byte;
-            tally.add(&Local, file.as_slice());
+            tally.add(check_file(&Local, file.as_slice()));
         }
         file[at] = kept;
     }
     tally.show(rt, "damaged")
 }
 
-// The next of a row of pseudo-random numbers.
-fn next(seed: u32) -> u32 {
-    seed.wrapping_mul(1_664_525).wrapping_add(1_013_904_223)
-}
+// A row of pseudo-random numbers, by the last.
+#[derive(Drop)]
+struct Dice(u32);
 
-// A pseudo-random byte below a bound.
-fn byte_below(seed: u32, bound: u32) -> u8 {
-    if bound == 0 || bound > 256 {
-        return 0;
+impl Dice {
+    // The next number, of two bytes.
+    fn draw(&mut self) -> u32 {
+        self.0 = self.0.wrapping_mul(1_664_525).wrapping_add(1_013_904_223);
+        self.0 >> 16
     }
-    (seed / 65536 % bound) as u8
+
+    // The next byte: any one time in sixteen, and else a command of a file, 0 to 5.
+    fn draw_byte(&mut self) -> u8 {
+        let bound = if self.draw() % 16 == 0 { 256 } else { 6 };
+        (self.draw() % bound) as u8
+    }
 }
 
 // Files of pseudo-random bytes, most of them small.
 fn random(rt: &HostRuntime) -> io::Result<()> {
-    let heap = rt.alloc();
-    let host = Pair {
-        first: Local,
-        second: Local,
-        split: 4,
-    };
-    let mut tally = Tally::new();
-    let mut seed = 7;
+    let mut dice = Dice(7);
+    let mut tally = Tally::default();
     for _ in 0..20000 {
-        let mut file = Vec::new(heap);
-        seed = next(seed);
-        let length = byte_below(seed, 40);
-        for _ in 0..length {
-            seed = next(seed);
-            let bound = if byte_below(seed, 16) == 0 { 256 } else { 6 };
-            seed = next(seed);
-            file.push(byte_below(seed, bound))?;
+        let mut file = Vec::new(rt.alloc());
+        for _ in 0..dice.draw() % 40 {
+            file.push(dice.draw_byte())?;
         }
-        tally.add(&host, file.as_slice());
+        tally.add(check_file(&TWICE, file.as_slice()));
     }
     tally.show(rt, "random")
 }
@@ -511,19 +402,21 @@ fn form(rt: &HostRuntime, name: &str, bytes: &[u8]) -> io::Result<()> {
 }
 
 fn forms(rt: &HostRuntime) -> io::Result<()> {
-    form(rt, "nothing", &[])?;
-    form(rt, "stop", &[0])?;
-    form(rt, "stop, and a byte", &[0, 0])?;
-    form(rt, "pending call", &[6, 0, 0, 0, 1, 2, 3, 4, 0, 0, 0, 9])?;
-    form(
-        rt,
-        "pending call cut short",
-        &[6, 0, 0, 0, 1, 2, 3, 4, 0, 0, 0],
-    )?;
-    form(rt, "mark 2", &[1, 0, 2, 0, 0])?;
-    form(rt, "parallel", &[3, 4, 1, 0, 0, 2, 0, 1, 0, 1])?;
-    form(rt, "parallel with one part", &[3, 0])?;
-    form(rt, "command 7", &[7])
+    let table: [(&str, &[u8]); 9] = [
+        ("nothing", &[]),
+        ("stop", &[0]),
+        ("stop, and a byte", &[0, 0]),
+        ("pending call", &[6, 0, 0, 0, 1, 2, 3, 4, 0, 0, 0, 9]),
+        ("pending call cut short", &[6, 0, 0, 0, 1, 2, 3, 4, 0, 0, 0]),
+        ("mark 2", &[1, 0, 2, 0, 0]),
+        ("parallel", &[3, 4, 1, 0, 0, 2, 0, 1, 0, 1]),
+        ("parallel with one part", &[3, 0]),
+        ("command 7", &[7]),
+    ];
+    for (name, bytes) in table {
+        form(rt, name, bytes)?;
+    }
+    Ok(())
 }
 
 fn main(rt: HostRuntime) -> io::Result<()> {
@@ -538,7 +431,6 @@ fn main(rt: HostRuntime) -> io::Result<()> {
     definition_scopes(&rt)?;
     cuts(&rt)?;
     nesting(&rt)?;
-    deep_binders(&rt)?;
     damaged(&rt)?;
     random(&rt)?;
     contents(&rt)?;

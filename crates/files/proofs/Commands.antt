@@ -6,16 +6,12 @@ use Rattle.orc.specs.Meaning.{Meaning}
 use Rattle.formats.specs.declared.fault.Fault.{Fault}
 use Rattle.formats.specs.declared.fault.Fault.TheVariants.{UnknownCommand}
 use Rattle.formats.specs.Operands.{byte_at, first_broken}
-use Rattle.formats.specs.Widths.{width_of}
 use Rattle.files.specs.Judgement.{Scope, Begun, Command, commands, named, SoundCommand, FaultyCommand, unknown, broken}
 
 -- a byte above 5 is no command
 none_of : (b : ℕ) (cs : List Command) → AllByRecursion (λ c. c.byte < b) cs → named b cs ≡ None
 none_of b [] below = refl
 none_of b (c ∷ cs) below = let first = below.0 in cond-false (eqb b c.byte) (Some c) (named b cs) (ne_eqb b c.byte (λ e. omega arith)) ∙ none_of b cs below.1
-
-pub wide_there : (bs : List ℕ) (at : ℕ) → at < length bs → {b : ℕ} → byte_at bs at ≡ b → 0 < width_of b → (at < length bs) × (0 < width_of (byte_at bs at))
-wide_there bs at within is wide = (within, rw is wide)
 
 module _ (m : Meaning) (n : ℕ) (bs : List ℕ) (scope : Scope) (at : ℕ) where
   pub none_named : (b : ℕ) → 5 < b → named b (commands m n bs scope at) ≡ None

@@ -9,5 +9,5 @@ pub mod FileDecoded
 pub mod Encoded
 pub mod FileEncoded
 pub mod Recovered
-pub mod Offsets
+pub mod Numbers
 pub mod Verdicts

@@ -1,183 +1,64 @@
 // The check of a parameter file: its bytes in order, to the first fault.
-ghost use Rattle.std.specs.Prelude.{◌≡◌, ◌+◌, ◌<◌, ◌≤◌, [], ◌∷◌, length, IfOk, Some, None, Ok, Err, MatchOption, MatchResult, OnOk, ◌≢◌};
-ghost use Rattle.orc.specs.Expressions.{Expression, Definition};
+ghost use Rattle.std.specs.Prelude.{◌≡◌, ◌+◌, ◌<◌, ◌≤◌, ◌∷◌, [], length, IfOk, Ok, Err, MatchResult, OnOk, ◌≢◌};
 ghost use Rattle.orc.specs.Files.{File, file_bytes, WellFormed};
-ghost use Rattle.formats.specs.Operands.{byte_at, reaches_to, first_broken};
+ghost use Rattle.formats.specs.Operands.{byte_at, reaches_to};
 ghost use Rattle.formats.specs.Widths.{width_of};
-ghost use Rattle.files.specs.Judgement.{in_range, parameter_rules, site_call_rules, definition_call_rules, binder_rules, alone, of_two, SoundCommand, FaultyCommand, FormOutcome, WholeOutcome, definition_end, definition_rules, DefinitionOutcome, RestOutcome, count_rules, FileOutcome};
+ghost use Rattle.files.specs.Judgement.{in_range, parameter_rules, site_call_rules, definition_call_rules, binder_rules, definition_end, definition_rules, RestOutcome, count_rules, FileOutcome};
 ghost use Rattle.files.specs.Contents.{file_of};
-ghost use Rattle.files.specs.Progress.{EndsIn};
+ghost use Rattle.files.specs.Progress.{ByRules, CommandJudged, FormJudged, WholeJudged, DefinitionJudged, EndsIn};
 ghost use Rattle.files.specs.Scopes.{bits};
 
 use crate::scope::Scope;
+use crate::small::Small;
 use formats::fault::Fault;
-use formats::operands::{read_u8, read_u16};
+use formats::operands::read;
 use formats::widths::width;
+use forms::command::Command;
+use forms::mark::Mark;
 use hosts::host::Host;
 
-// The variable or the site at an offset, 0 to 31.
-fn read_small(bytes: &[u8], at: usize) -> Result<u8, Fault>
-    requires { at ≤ 8192 }
-    ensures rules { MatchResult result (λ _. first_broken (reaches_to bytes.now (at + 1) ∷ in_range (byte_at bytes.now at) at ∷ []) ≡ None) (λ f. first_broken (reaches_to bytes.now (at + 1) ∷ in_range (byte_at bytes.now at) at ∷ []) ≡ Some f) }
-    ensures number { IfOk result (λ x. (x ≡ byte_at bytes.now at) × (x < 32)) }
-{
-    let number = read_u8(bytes, at)?;
-    if number > 31 {
-        return Err(Fault::OperandBeyondRange(at));
-    }
-    Ok(number)
+// How long a file may be, in bytes.
+const LONGEST: usize = 4096;
+
+// How many definitions it may have.
+const MOST_DEFINITIONS: u8 = 16;
+
+// What forms are judged with: the host, how many definitions the file has, and the bytes up to their end.
+#[derive(Drop)]
+struct Judge<'a, H> {
+    host: &'a H,
+    count: u8,
+    bytes: &'a [u8],
+    ghost short: { length bytes.now ≤ 4096 },
 }
 
-// The parameter at an offset: a value, or a variable that is bound.
-fn check_parameter(bytes: &[u8], scope: Scope, at: usize) -> Result<(), Fault>
-    requires { at ≤ 8192 }
-    ensures { MatchResult result (λ _. first_broken (parameter_rules bytes.now (bits scope.bound) at) ≡ None) (λ f. first_broken (parameter_rules bytes.now (bits scope.bound) at) ≡ Some f) }
+// The variable or the site at an offset.
+fn read_small(bytes: &[u8], at: usize) -> Result<Small, Fault>
+    ensures rules { ByRules (reaches_to bytes.now (at + 1) ∷ in_range (byte_at bytes.now at) at ∷ []) result }
+    ensures number { IfOk result (λ x. x.number ≡ byte_at bytes.now at) }
 {
-    let mark = read_u8(bytes, at)?;
-    if mark > 1 {
-        return Err(Fault::OperandBeyondRange(at));
-    }
-    let number = read_u16(bytes, at + 1)?;
-    if mark == 0 {
-        return Ok(());
-    }
-    if number > 31 {
-        return Err(Fault::OperandBeyondRange(at + 1));
-    }
-    if !scope.holds(number) {
-        return Err(Fault::FreeVariable(at + 1));
-    }
-    Ok(())
-}
-
-// The operands of the site call at an offset.
-fn check_site_call<H: Host>(host: &H, bytes: &[u8], scope: Scope, at: usize) -> Result<(), Fault>
-    requires { at ≤ 4096 }
-    ensures { MatchResult result (λ _. first_broken (site_call_rules (H.Host.meaning host.now) bytes.now (bits scope.bound) at) ≡ None) (λ f. first_broken (site_call_rules (H.Host.meaning host.now) bytes.now (bits scope.bound) at) ≡ Some f) }
-{
-    let site = read_small(bytes, at + 1)?;
-    if !host.knows(site) {
-        return Err(Fault::SiteUnknown(at + 1));
-    }
-    check_parameter(bytes, scope, at + 2)
-}
-
-// The operands of the definition call at an offset, in a file with so many definitions.
-fn check_definition_call(count: u8, bytes: &[u8], scope: Scope, at: usize) -> Result<(), Fault>
-    requires { at ≤ 4096 }
-    ensures { MatchResult result (λ _. first_broken (definition_call_rules count bytes.now (bits scope.bound) at) ≡ None) (λ f. first_broken (definition_call_rules count bytes.now (bits scope.bound) at) ≡ Some f) }
-{
-    let number = read_u8(bytes, at + 1)?;
-    if number >= count {
-        return Err(Fault::NoSuchDefinition(at + 1));
-    }
-    check_parameter(bytes, scope, at + 2)
+    let number = read::<u8>(bytes, at)?;
+    Small::new(u16::from(number)).ok_or(Fault::OperandBeyondRange(at))
 }
 
 // The variable that the command at an offset binds.
-fn read_binder(bytes: &[u8], at: usize) -> Result<u8, Fault>
+fn read_binder(bytes: &[u8], at: usize) -> Result<Small, Fault>
     requires { at ≤ 4096 }
-    ensures rules { MatchResult result (λ _. first_broken (binder_rules bytes.now at) ≡ None) (λ f. first_broken (binder_rules bytes.now at) ≡ Some f) }
-    ensures number { IfOk result (λ x. (x ≡ byte_at bytes.now (at + 1)) × (x < 32)) }
+    ensures rules { ByRules (binder_rules bytes.now at) result }
+    ensures number { IfOk result (λ x. x.number ≡ byte_at bytes.now (at + 1)) }
 {
     read_small(bytes, at + 1)
 }
 
-// The command at an offset with its operands. For one with two parts, the variables that are bound in each.
-fn check_command<H: Host>(
-    host: &H,
-    count: u8,
-    bytes: &[u8],
-    scope: Scope,
-    at: usize,
-) -> Result<Option<(Scope, Scope)>, Fault>
-    requires { length bytes.now ≤ 4096 }
-    ensures wide { OnOk result ((at < length bytes.now) × (0 < width_of (byte_at bytes.now at))) }
-    ensures judged { MatchResult result
-        (λ parts. MatchOption parts
-        ((e : Expression) × SoundCommand (H.Host.meaning host.now) count bytes.now (bits scope.bound) at (alone e))
-        (λ p. (make : Expression → Expression → Expression) × SoundCommand (H.Host.meaning host.now) count bytes.now (bits scope.bound) at (of_two (bits p.0.bound) (bits p.1.bound) make)))
-        (λ f. FaultyCommand (H.Host.meaning host.now) count bytes.now (bits scope.bound) at f) }
-{
-    if at >= bytes.len() {
-        return Err(Fault::CutShort(bytes.len()));
-    }
-    match bytes[at] {
-        0 => Ok(None),
-        1 => {
-            check_site_call(host, bytes, scope, at)?;
-            Ok(None)
-        }
-        2 => {
-            check_definition_call(count, bytes, scope, at)?;
-            Ok(None)
-        }
-        3 => Ok(Some((scope, scope))),
-        4 => {
-            let variable = read_binder(bytes, at)?;
-            Ok(Some((scope, scope.with(variable))))
-        }
-        5 => {
-            let variable = read_binder(bytes, at)?;
-            Ok(Some((scope.with(variable), scope)))
-        }
-        _ => Err(Fault::UnknownCommand(at)),
-    }
-}
-
-// The form at an offset, and the offset behind it.
-fn check_form<H: Host>(
-    host: &H,
-    count: u8,
-    bytes: &[u8],
-    scope: Scope,
-    at: usize,
-) -> Result<usize, Fault>
-    requires { length bytes.now ≤ 4096 }
-    ensures behind { IfOk result (λ end. at < end) }
-    ensures outcome { MatchResult result
-        (λ end. (e : Expression) × FormOutcome (H.Host.meaning host.now) count bytes.now (bits scope.bound) at (Ok (e, end)))
-        (λ f. FormOutcome (H.Host.meaning host.now) count bytes.now (bits scope.bound) at (Err f)) }
-{
-    let parts = check_command(host, count, bytes, scope, at)?;
-    let behind = at + width(bytes[at]);
-    let Some((left, right)) = parts else {
-        return Ok(behind);
-    };
-    let middle = check_form(host, count, bytes, left, behind)?;
-    check_form(host, count, bytes, right, middle)
-}
-
-// The form at an offset, which is to end where the bytes end.
-fn check_whole<H: Host>(
-    host: &H,
-    count: u8,
-    bytes: &[u8],
-    scope: Scope,
-    at: usize,
-) -> Result<(), Fault>
-    requires { length bytes.now ≤ 4096 }
-    ensures { MatchResult result
-        (λ _. (e : Expression) × WholeOutcome (H.Host.meaning host.now) count bytes.now (bits scope.bound) at (Ok e))
-        (λ f. WholeOutcome (H.Host.meaning host.now) count bytes.now (bits scope.bound) at (Err f)) }
-{
-    let end = check_form(host, count, bytes, scope, at)?;
-    if end < bytes.len() {
-        return Err(Fault::TrailingBytes(end));
-    }
-    Ok(())
-}
-
 // The formal variable of the definition at an offset, and the definition's end.
-fn read_definition_head(file: &[u8], at: usize) -> Result<(u8, usize), Fault>
+fn read_definition_head(file: &[u8], at: usize) -> Result<(Small, usize), Fault>
     requires { at ≤ 4096 }
-    ensures rules { MatchResult result (λ _. first_broken (definition_rules file.now at) ≡ None) (λ f. first_broken (definition_rules file.now at) ≡ Some f) }
-    ensures head { MatchResult result
-        (λ h. (h.0 ≡ byte_at file.now at) × (h.0 < 32) × (h.1 ≡ definition_end file.now at) × (h.1 ≤ length file.now) × (at + 3 ≤ h.1))
-        (λ _. Unit {0}) }
+    ensures rules { ByRules (definition_rules file.now at) result }
+    ensures head { IfOk result
+        (λ h. (h.0.number ≡ byte_at file.now at) × (h.1 ≡ definition_end file.now at) × (h.1 ≤ length file.now) × (at + 3 ≤ h.1)) }
 {
     let formal = read_small(file, at)?;
-    let length = read_u16(file, at + 1)?;
+    let length = read::<u16>(file, at + 1)?;
     let end = at + 3 + usize::from(length);
     if end > file.len() {
         return Err(Fault::CutShort(file.len()));
@@ -185,51 +66,151 @@ fn read_definition_head(file: &[u8], at: usize) -> Result<(u8, usize), Fault>
     Ok((formal, end))
 }
 
-// The definition at an offset, and the offset behind it.
-fn check_definition<H: Host>(host: &H, count: u8, file: &[u8], at: usize) -> Result<usize, Fault>
-    requires short { length file.now ≤ 4096 }
-    requires within { at ≤ length file.now }
-    ensures end { IfOk result (λ end. (end ≡ definition_end file.now at) × (end ≤ length file.now)) }
-    ensures outcome { MatchResult result
-        (λ _. (d : Definition) × DefinitionOutcome (H.Host.meaning host.now) count file.now at (Ok d))
-        (λ f. DefinitionOutcome (H.Host.meaning host.now) count file.now at (Err f)) }
-{
-    let (formal, end) = read_definition_head(file, at)?;
-    check_whole(
-        host,
-        count,
-        &file[0..end],
-        Scope::empty().with(formal),
-        at + 3,
-    )?;
-    Ok(end)
-}
-
 // The count of definitions, a file's first byte.
 fn read_count(file: &[u8]) -> Result<u8, Fault>
-    ensures rules { MatchResult result (λ _. first_broken (count_rules file.now) ≡ None) (λ f. first_broken (count_rules file.now) ≡ Some f) }
+    ensures rules { ByRules (count_rules file.now) result }
     ensures count { IfOk result (λ n. (n ≡ byte_at file.now 0) × (1 ≤ length file.now)) }
 {
-    let count = read_u8(file, 0)?;
-    if count > 16 {
+    let count = read::<u8>(file, 0)?;
+    if count > MOST_DEFINITIONS {
         return Err(Fault::OperandBeyondRange(0));
     }
     Ok(count)
 }
 
-// The definitions of a file, and the offset behind them.
-fn check_definitions<H: Host>(host: &H, count: u8, file: &[u8]) -> Result<usize, Fault>
-    requires short { length file.now ≤ 4096 }
-    requires some { 1 ≤ length file.now }
-    ensures { MatchResult result
-        (λ at. EndsIn (H.Host.meaning host.now) count file.now 0 at)
-        (λ f. RestOutcome (H.Host.meaning host.now) count file.now count 1 (Err f)) }
-{
-    let mut at = 1;
-    for _i in 0..count {
-        at = check_definition(host, count, file, at)?;
+impl<'a, H: Host> Judge<'a, H> {
+    // The parameter at an offset: a value, or a variable that is bound.
+    fn parameter(&self, scope: Scope, at: usize) -> Result<(), Fault>
+        requires { at ≤ 8192 }
+        ensures { ByRules (parameter_rules self.now.bytes.now (bits scope.bound) at) result }
+    {
+        let mark = read::<u8>(self.bytes, at)?;
+        let Ok(mark) = Mark::try_from(mark) else {
+            return Err(Fault::OperandBeyondRange(at));
+        };
+        let number = read::<u16>(self.bytes, at + 1)?;
+        if mark == Mark::Value {
+            return Ok(());
+        }
+        let variable = Small::new(number).ok_or(Fault::OperandBeyondRange(at + 1))?;
+        if !scope.holds(variable) {
+            return Err(Fault::FreeVariable(at + 1));
+        }
+        Ok(())
     }
-    Ok(at)
+
+    // The operands of the site call at an offset.
+    fn site_call(&self, scope: Scope, at: usize) -> Result<(), Fault>
+        requires { at ≤ 4096 }
+        ensures { ByRules (site_call_rules (H.Host.meaning self.now.host.now) self.now.bytes.now (bits scope.bound) at) result }
+    {
+        let site = read_small(self.bytes, at + 1)?;
+        if !self.host.knows(site.number) {
+            return Err(Fault::SiteUnknown(at + 1));
+        }
+        self.parameter(scope, at + 2)
+    }
+
+    // The operands of the definition call at an offset.
+    fn definition_call(&self, scope: Scope, at: usize) -> Result<(), Fault>
+        requires { at ≤ 4096 }
+        ensures { ByRules (definition_call_rules self.now.count self.now.bytes.now (bits scope.bound) at) result }
+    {
+        let number = read::<u8>(self.bytes, at + 1)?;
+        if number >= self.count {
+            return Err(Fault::NoSuchDefinition(at + 1));
+        }
+        self.parameter(scope, at + 2)
+    }
+
+    // The command at an offset with its operands. For one with two parts, the variables that are bound in each.
+    fn command(&self, scope: Scope, at: usize) -> Result<Option<(Scope, Scope)>, Fault>
+        ensures wide { OnOk result
+            ((at < length self.now.bytes.now) × (0 < width_of (byte_at self.now.bytes.now at))) }
+        ensures judged { CommandJudged (H.Host.meaning self.now.host.now) self.now.count self.now.bytes.now (bits scope.bound) at result }
+    {
+        let byte = read::<u8>(self.bytes, at)?;
+        let Ok(command) = Command::try_from(byte) else {
+            return Err(Fault::UnknownCommand(at));
+        };
+        match command {
+            Command::Stop => Ok(None),
+            Command::SiteCall => {
+                self.site_call(scope, at)?;
+                Ok(None)
+            }
+            Command::DefinitionCall => {
+                self.definition_call(scope, at)?;
+                Ok(None)
+            }
+            Command::Parallel => Ok(Some((scope, scope))),
+            Command::Sequential => {
+                let variable = read_binder(self.bytes, at)?;
+                Ok(Some((scope, scope.with(variable))))
+            }
+            Command::Pruning => {
+                let variable = read_binder(self.bytes, at)?;
+                Ok(Some((scope.with(variable), scope)))
+            }
+            Command::Pending => Err(Fault::UnknownCommand(at)),
+        }
+    }
+
+    // The form at an offset, and the offset behind it.
+    fn form(&self, scope: Scope, at: usize) -> Result<usize, Fault>
+        ensures behind { IfOk result (λ end. at < end) }
+        ensures outcome { FormJudged (H.Host.meaning self.now.host.now) self.now.count self.now.bytes.now (bits scope.bound) at result }
+    {
+        let parts = self.command(scope, at)?;
+        let behind = at + width(self.bytes[at]);
+        let Some((left, right)) = parts else {
+            return Ok(behind);
+        };
+        let middle = self.form(left, behind)?;
+        self.form(right, middle)
+    }
+
+    // The form at an offset, which is to end where the bytes end.
+    fn whole(&self, scope: Scope, at: usize) -> Result<(), Fault>
+        ensures { WholeJudged (H.Host.meaning self.now.host.now) self.now.count self.now.bytes.now (bits scope.bound) at result }
+    {
+        let end = self.form(scope, at)?;
+        if end < self.bytes.len() {
+            return Err(Fault::TrailingBytes(end));
+        }
+        Ok(())
+    }
+
+    // The definition at an offset, and the offset behind it. Its form is judged up to the definition's own end.
+    fn definition(&self, at: usize) -> Result<usize, Fault>
+        requires { at ≤ length self.now.bytes.now }
+        ensures end { IfOk result
+            (λ end. (end ≡ definition_end self.now.bytes.now at) × (end ≤ length self.now.bytes.now)) }
+        ensures outcome { DefinitionJudged (H.Host.meaning self.now.host.now) self.now.count self.now.bytes.now at result }
+    {
+        let (formal, end) = read_definition_head(self.bytes, at)?;
+        let body = Judge {
+            host: self.host,
+            count: self.count,
+            bytes: &self.bytes[..end],
+        };
+        body.whole(Scope::empty().with(formal), at + 3)?;
+        Ok(end)
+    }
+
+    // All definitions, and the offset behind them.
+    fn definitions(&self) -> Result<usize, Fault>
+        requires { 1 ≤ length self.now.bytes.now }
+        ensures { MatchResult result
+            (λ at. EndsIn (H.Host.meaning self.now.host.now) self.now.count self.now.bytes.now 0 at)
+            (λ f. RestOutcome (H.Host.meaning self.now.host.now) self.now.count self.now.bytes.now self.now.count 1 (Err f)) }
+    {
+        let mut at = 1;
+        for _ in 0..self.count {
+            at = self.definition(at)?;
+        }
+        Ok(at)
+    }
 }
 
 // The file, to its first fault.
@@ -238,12 +219,16 @@ fn judge_file<H: Host>(host: &H, file: &[u8]) -> Result<(), Fault>
         (λ _. (x : File) × FileOutcome (H.Host.meaning host.now) file.now (Ok x))
         (λ f. FileOutcome (H.Host.meaning host.now) file.now (Err f)) }
 {
-    if file.len() > 4096 {
+    if file.len() > LONGEST {
         return Err(Fault::TooLong);
     }
-    let count = read_count(file)?;
-    let at = check_definitions(host, count, file)?;
-    check_whole(host, count, file, Scope::empty(), at)
+    let judge = Judge {
+        host,
+        count: read_count(file)?,
+        bytes: file,
+    };
+    let at = judge.definitions()?;
+    judge.whole(Scope::empty(), at)
 }
 
 // Judges a file with a host: accepted, which is so exactly if the bytes are the encoding of a file that is well-formed over

@@ -1,12 +1,12 @@
 // The definitions and the goal of a parameter file, read from its bytes.
-ghost use Rattle.std.specs.Prelude.{◌≡◌, ◌+◌, ◌≤◌, min, length, drop, IfSome, IfOk, Ok, Err, MatchResult};
+ghost use Rattle.std.specs.Prelude.{◌≡◌, length, drop, IfSome, IfOk, Ok, Err, MatchResult};
 ghost use Rattle.std.specs.Option.{option_map};
 ghost use Rattle.orc.specs.Expressions.{entry};
 ghost use Rattle.orc.specs.Files.{File, file_bytes};
-ghost use Rattle.formats.specs.Operands.{byte_at, two_at};
+ghost use Rattle.formats.specs.Operands.{byte_at};
 ghost use Rattle.forms.specs.Heads.{expression, IsForm};
 ghost use Rattle.files.specs.Judgement.{FileOutcome};
-ghost use Rattle.files.specs.Contents.{behind_definition, behind_definitions, file_of};
+ghost use Rattle.files.specs.Contents.{body_bytes, behind_definition, behind_definitions, file_of};
 ghost use Rattle.files.specs.Parts.{definition_of};
 
 use crate::check::check_file;
@@ -31,34 +31,35 @@ pub struct Definition<'a> {
 fn byte_or_zero(bytes: &[u8], at: usize) -> u8
     ensures { result ≡ byte_at bytes.now at }
 {
-    if at < bytes.len() { bytes[at] } else { 0 }
+    bytes.get(at).copied().unwrap_or(0)
 }
 
-// The offset where the form of the definition at an offset begins, and where it ends.
-fn body_range(bytes: &[u8], at: usize) -> (usize, usize)
-    requires { at ≤ length bytes.now }
-    ensures within { (result.0 ≤ result.1) × (result.1 ≤ length bytes.now) }
-    ensures start { result.0 ≡ min (length bytes.now) (at + 3) }
-    ensures end { result.1 ≡ min (length bytes.now) (at + 3 + two_at bytes.now (at + 1)) }
+// What stands from an offset on.
+fn bytes_from<'a>(bytes: &'a [u8], at: usize) -> &'a [u8]
+    ensures { result.now ≡ drop at bytes.now }
 {
-    let len = bytes.len();
-    let size = u16::from_be_bytes([byte_or_zero(bytes, at + 1), byte_or_zero(bytes, at + 2)]);
-    let start = len.min(at + 3);
-    let end = len.min(at + 3 + usize::from(size));
-    (start, end)
+    bytes.get(at..).unwrap_or(&[])
 }
 
-// The offset behind so many definitions.
-fn offset_behind(bytes: &[u8], count: usize) -> usize
-    ensures within { result ≤ length bytes.now }
-    ensures behind { drop result bytes.now ≡ behind_definitions count (drop 1 bytes.now) }
+// The form of the definition at the front of some bytes, and what stands behind it.
+fn split_definition<'a>(bytes: &'a [u8]) -> (&'a [u8], &'a [u8])
+    ensures body { result.0.now ≡ body_bytes bytes.now }
+    ensures behind { result.1.now ≡ behind_definition bytes.now }
 {
-    let mut at = bytes.len().min(1);
-    for _i in 0..count {
-        let (_, end) = body_range(bytes, at);
-        at = end;
+    let size = u16::from_be_bytes([byte_or_zero(bytes, 1), byte_or_zero(bytes, 2)]);
+    let rest = bytes_from(bytes, 3);
+    rest.split_at(rest.len().min(usize::from(size)))
+}
+
+// What stands behind so many definitions of a file.
+fn behind_definitions<'a>(file: &'a [u8], count: usize) -> &'a [u8]
+    ensures { result.now ≡ behind_definitions count (drop 1 file.now) }
+{
+    let mut rest = bytes_from(file, 1);
+    for _ in 0..count {
+        rest = split_definition(rest).1;
     }
-    at
+    rest
 }
 
 impl<'a> Contents<'a> {
@@ -84,12 +85,11 @@ impl<'a> Contents<'a> {
         if number >= self.definition_count() {
             return None;
         }
-        let bytes = self.bytes;
-        let at = offset_behind(bytes, number);
-        let (start, end) = body_range(bytes, at);
+        let definition = behind_definitions(self.bytes, number);
+        let (body, _) = split_definition(definition);
         Some(Definition {
-            formal: byte_or_zero(bytes, at),
-            body: Form::new(&bytes[start..end]),
+            formal: byte_or_zero(definition, 0),
+            body: Form::new(body),
         })
     }
 
@@ -98,10 +98,7 @@ impl<'a> Contents<'a> {
         ensures goal { expression result ≡ (file_of self.entry.bytes.now).goal }
         ensures whole { (file : File) → self.entry.bytes.now ≡ file_bytes file → IsForm result.bytes.now }
     {
-        let bytes = self.bytes;
-        let len = bytes.len();
-        let at = offset_behind(bytes, self.definition_count());
-        Form::new(&bytes[at..len])
+        Form::new(behind_definitions(self.bytes, self.definition_count()))
     }
 }
 

@@ -5,3 +5,4 @@ pub mod check;
 pub mod contents;
 pub mod laws;
 mod scope;
+mod small;

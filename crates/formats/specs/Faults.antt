@@ -1,13 +1,8 @@
 -- What is told of each fault of an input. Assumes nothing.
-use Rattle.std.specs.Prelude.{ℕ, List, ◌++◌, codes, decimal}
+use Rattle.std.specs.Prelude.{codes}
+use Rattle.verdicts.specs.Verdicts.{Told}
 use Rattle.formats.specs.declared.fault.Fault.{Fault}
 use Rattle.formats.specs.declared.fault.Fault.TheVariants.{CutShort, UnknownCommand, OperandBeyondRange, NoSuchDefinition, SiteUnknown, FreeVariable, TooLong, TrailingBytes, WindowBeforeRow, EmptyRow, SecondBelowFirst, TooMany}
-
--- the number that mechanics know a fault by, the byte offset that it is about, and its name
-pub record Told : Type 0 where
-  pub number : ℕ
-  pub place : ℕ
-  pub name : List ℕ
 
 abbrev pub told : Fault → Told
 told (CutShort p) = record { number = 1; place = p; name = codes "Cut short" }
@@ -22,7 +17,3 @@ told (WindowBeforeRow p) = record { number = 9; place = p; name = codes "Window 
 told (EmptyRow p) = record { number = 10; place = p; name = codes "Row without silence or window" }
 told (SecondBelowFirst p) = record { number = 11; place = p; name = codes "Second of a pair below the first" }
 told (TooMany p) = record { number = 12; place = p; name = codes "Row 65 or window 5 of a row" }
-
--- the line that is printed: refused NUMBER at PLACE: Name
-abbrev pub verdict : Told → List ℕ
-verdict t = codes "refused " ++ (decimal t.number ++ (codes " at " ++ (decimal t.place ++ (codes ": " ++ t.name))))

@@ -1,8 +1,12 @@
 // The faults of an input. Each has a number, which mechanics know it by, and a place, a byte offset.
-ghost use Rattle.std.specs.Prelude.{◌≡◌, Some};
-ghost use Rattle.formats.specs.Faults.{told, verdict};
+ghost use Rattle.std.specs.Prelude.{Some};
+ghost use Rattle.verdicts.specs.Verdicts.{verdict};
+ghost use Rattle.formats.specs.Faults.{told};
 
+use std::error::Error;
 use std::fmt;
+use verdicts::reason::Reason;
+use verdicts::verdict::Verdict;
 
 #[derive(Clone, Copy, PartialEq, Eq, Debug)]
 pub enum Fault {
@@ -20,11 +24,10 @@ pub enum Fault {
     TooMany(usize),
 }
 
-impl Fault {
-    // The number that a mechanic looks up.
-    pub fn number(&self) -> u8
-        ensures { result ≡ (told self.now).number }
-    {
+impl Reason for Fault {
+    ghost told = { told };
+
+    fn number(&self) -> u8 {
         match self {
             Fault::CutShort(_) => 1,
             Fault::UnknownCommand(_) => 2,
@@ -42,9 +45,7 @@ impl Fault {
     }
 
     // The offset of the byte that it is about.
-    pub fn place(&self) -> usize
-        ensures { result ≡ (told self.now).place }
-    {
+    fn place(&self) -> usize {
         match self {
             Fault::TooLong => 4096,
             Fault::CutShort(at)
@@ -61,10 +62,7 @@ impl Fault {
         }
     }
 
-    // Its name in words.
-    pub fn name(&self) -> &'static str
-        ensures { result.now ≡ (told self.now).name }
-    {
+    fn name(&self) -> &'static str {
         match self {
             Fault::CutShort(_) => "Cut short",
             Fault::UnknownCommand(_) => "Unknown command",
@@ -82,14 +80,12 @@ impl Fault {
     }
 }
 
-// `refused NUMBER at PLACE: Name`
 impl fmt::Display for Fault {
     ghost output = { λ f. Some (verdict (told f)) };
 
     fn fmt<W: fmt::Write>(&self, f: &mut fmt::Formatter<W>) -> fmt::Result {
-        let number = self.number();
-        let place = self.place();
-        let name = self.name();
-        write!(f, "refused {number} at {place}: {name}")
+        Verdict(self).fmt(f)
     }
 }
+
+impl Error for Fault {}

@@ -1,12 +1,12 @@
 -- The two parts of a form, as reading takes them. Assumes nothing.
-use Rattle.std.proofs.Common.{◌≡◌, ℕ, ◌+◌, ◌-◌, ◌≤◌, List, [], ◌++◌, length, take, drop, sym, refl, ap, ◌∙◌, subst, inl, inr, arith}
+use Rattle.std.proofs.Common.{◌≡◌, ℕ, ◌+◌, ◌-◌, ◌≤◌, List, [], ◌++◌, length, take, drop, sym, refl, ap, ◌∙◌, subst, inl, inr, arith, Option, Some, None, IfSome, unwrap_or}
 use Rattle.std.specs.List.{between}
 use Rattle.std.proofs.lemmas.List.{length-append, drop-drop, drop_all, drop_at, take_at, take-append-drop}
 use Rattle.std.proofs.lemmas.Slice.{between_to_end}
 use Rattle.std.proofs.lemmas.Bool.{true≢false}
 use Rattle.orc.specs.Expressions.{bytes}
 use Rattle.forms.specs.Reading.{read, expression_of}
-use Rattle.forms.specs.Shapes.{FormAt, without_parts, with_parts, PartEnd, behind_form, behind_all}
+use Rattle.forms.specs.Shapes.{FormAt, without_parts, with_parts}
 use Rattle.forms.specs.Heads.{TwoParts}
 use Rattle.formats.proofs.Left.{drop_left}
 use Rattle.forms.proofs.Exactly.{shape}
@@ -62,6 +62,11 @@ module _ (bs : List ℕ) (at end : ℕ) (first : at ≤ end) (last : end ≤ len
         exact = λ f g is. absurd (none _ (shape bs f at (bytes g) is));
       }
 
-  pub two_parts : PartEnd bs at end → TwoParts (drop at bs) (between at end bs) (between end (length bs) bs)
-  two_parts (behind_form form) = rw (between_to_end bs end (length bs) (omega arith)) (behind_a_form form)
-  two_parts (behind_all none is) = rw (between_to_end bs end (length bs) (omega arith)) (behind_all_bytes none is)
+from_start : (bs : List ℕ) (end : ℕ) → TwoParts bs (between 0 end bs) (drop end bs) → TwoParts bs (take end bs) (drop end bs)
+from_start bs end both = let whole : end - 0 ≡ end = omega arith in subst (λ (n : ℕ). TwoParts bs (take n bs) (drop end bs)) whole both
+
+-- The bytes behind a command, if a form that begins there ends at o.
+pub two_parts : (bs : List ℕ) (o : Option ℕ) → IfSome o (λ end. FormAt bs 0 end) → ((end : ℕ) → FormAt bs 0 end → o ≡ Some end)
+    → TwoParts bs (take (unwrap_or o (length bs)) bs) (drop (unwrap_or o (length bs)) bs)
+two_parts bs None found only = from_start bs (length bs) (behind_all_bytes bs 0 (length bs) (omega arith) (omega arith) (λ e form. cc (only e form)) refl)
+two_parts bs (Some end) form only = from_start bs end (behind_a_form bs 0 end (omega arith) (form_reads bs form).within form)

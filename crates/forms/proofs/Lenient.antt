@@ -1,5 +1,5 @@
 -- How a list is read that may be no form: where its first form ends, and that no more of it counts. Assumes nothing.
-use Rattle.std.proofs.Common.{◌≡◌, ℕ, zero, suc, ◌+◌, ◌-◌, ◌<◌, ◌≤◌, true, false, ◌⊎◌, List, [], ◌++◌, length, take, drop, sym, refl, ap, ◌∙◌, subst, inl, inr, append_assoc, arith, take-add}
+use Rattle.std.proofs.Common.{◌≡◌, ℕ, zero, suc, ◌+◌, ◌-◌, ◌<◌, ◌≤◌, true, false, ◌⊎◌, List, [], ◌++◌, length, take, drop, sym, refl, ap, ◌∙◌, subst, inl, inr, append_assoc, arith, take-add, Option, Some, None, IfSome}
 use Rattle.std.specs.List.{between}
 use Rattle.std.proofs.lemmas.List.{length-append, length-drop, drop-drop, get_or-drop, nil_from_length}
 use Rattle.std.proofs.lemmas.Bool.{true≢false}
@@ -154,6 +154,10 @@ module _ (bs : List ℕ) where
   pub form_reads : {at end : ℕ} → FormAt bs at end → ReadThere bs at end
   form_reads (without_parts {at} {end} whole leaf is) = subst (ReadThere bs at) (sym is) (alone_there at whole leaf (begins_with (its_bytes at whole)))
   form_reads (with_parts {at} whole split f g) = two_there at whole split (begins_with (its_bytes at whole)) (form_reads f) (form_reads g)
+
+  pub within : (at : ℕ) (o : Option ℕ) → IfSome o (λ end. FormAt bs at end) → IfSome o (λ end. (at < end) × (end ≤ length bs))
+  within at None found = tt
+  within at (Some end) form = let there = form_reads form in (there.some, there.within)
 
   -- Where no form stands, nothing is left behind what is read.
   abbrev pub EndsOrNothingLeft : ℕ → ℕ → Type 0

@@ -1,3 +1,4 @@
+pub mod Naming
 pub mod Counting
 pub mod Exactly
 pub mod Openings
@@ -6,4 +7,4 @@ pub mod ReadBack
 pub mod Halves
 pub mod Fronts
 pub mod Written
-pub mod Expected
+pub mod Decoding

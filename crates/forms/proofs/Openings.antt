@@ -1,10 +1,14 @@
 -- The command at the front of a list: what it begins, by its byte. Assumes nothing.
-use Rattle.std.proofs.Common.{◌≡◌, ℕ, zero, suc, ◌<◌, ◌≤◌, Bool, true, false, cond, eqb, leb, List, ◌++◌, length, drop, sym, refl, ap, ◌∙◌, inl, inr, arith, lit≤}
+use Rattle.std.proofs.Common.{◌≡◌, ℕ, ◌<◌, ◌≤◌, Bool, true, false, cond, eqb, leb, List, ◌++◌, length, drop, sym, refl, ap, ◌∙◌, inl, inr, arith, lit≤}
 use Rattle.std.proofs.lemmas.List.{get_or_append_left, length-append, drop_at}
 use Rattle.std.proofs.lemmas.Bool.{le-leb, lt-leb, cases_lt, ne_eqb, eqb-true, cond-true, cond-false, cond_both}
 use Rattle.orc.specs.Expressions.{Expression, stop, sequential, pruning}
 use Rattle.formats.specs.Operands.{byte_at}
 use Rattle.formats.specs.Widths.{width_of}
+use Rattle.forms.specs.declared.command.Command.{Command}
+use Rattle.forms.specs.declared.command.Command.TheVariants.{Stop, SiteCall, DefinitionCall, Parallel, Sequential, Pruning, Pending}
+use Rattle.forms.specs.Commands.{byte_of}
+use Rattle.forms.proofs.Naming.{command_of}
 use Rattle.forms.specs.Reading.{Opening, alone, of_two, no_form, opened, opening}
 use Rattle.forms.specs.Shapes.{has_parts}
 
@@ -47,18 +51,21 @@ opened_past b l past =
     skipped b 0 _ _ (omega arith) (skipped b 1 _ _ (omega arith) (skipped b 2 _ _ (omega arith) (skipped b 3 _ _ (omega arith)
     (skipped b 4 _ _ (omega arith) (skipped b 5 _ _ (omega arith) (skipped b 6 _ _ past refl))))))
 
-by_first : (l : List ℕ) (b : ℕ) → first l ≡ b → Begins l
-by_first l zero is = alone_begins l 0 is stop refl (lit≤ tt) refl
-by_first l (suc zero) is = alone_begins l 1 is _ refl (lit≤ tt) refl
-by_first l (suc (suc zero)) is = alone_begins l 2 is _ refl (lit≤ tt) refl
-by_first l (suc (suc (suc zero))) is = two_begins l 3 is _ refl (lit≤ tt) refl
-by_first l (suc (suc (suc (suc zero)))) is = two_begins l 4 is _ refl (lit≤ tt) refl
-by_first l (suc (suc (suc (suc (suc zero))))) is = two_begins l 5 is _ refl (lit≤ tt) refl
-by_first l (suc (suc (suc (suc (suc (suc zero)))))) is = alone_begins l 6 is _ refl (lit≤ tt) refl
-by_first l (suc (suc (suc (suc (suc (suc (suc n))))))) is = with_none (cond_both (leb (width_of (first l)) (length l)) _ _ (λ o. o ≡ no_form) (λ _. opened_past (first l) l (omega arith)) (λ _. refl)) (λ command _. omega arith)
+by_command : (l : List ℕ) (c : Command) → first l ≡ byte_of c → Begins l
+by_command l Stop is = alone_begins l 0 is stop refl (lit≤ tt) refl
+by_command l SiteCall is = alone_begins l 1 is _ refl (lit≤ tt) refl
+by_command l DefinitionCall is = alone_begins l 2 is _ refl (lit≤ tt) refl
+by_command l Parallel is = two_begins l 3 is _ refl (lit≤ tt) refl
+by_command l Sequential is = two_begins l 4 is _ refl (lit≤ tt) refl
+by_command l Pruning is = two_begins l 5 is _ refl (lit≤ tt) refl
+by_command l Pending is = alone_begins l 6 is _ refl (lit≤ tt) refl
 
 pub begins_with : (l : List ℕ) → Begins l
-begins_with l = by_first l (first l) refl
+begins_with l =
+    elim (cases_lt 6 (first l)) [
+      | inl past ↦ with_none (cond_both (leb (width_of (first l)) (length l)) _ _ (λ o. o ≡ no_form) (λ _. opened_past (first l) l past) (λ _. refl)) (λ command _. omega arith)
+      | inr known ↦ let c = command_of (first l) known in by_command l c.0 c.1
+    ]
 
 -- a whole command begins the same, whatever stands behind it
 alike : (b : Bool) (o o' rest rest' : Opening) → (b ≡ true → o ≡ o') → rest ≡ rest' → cond b o rest ≡ cond b o' rest'

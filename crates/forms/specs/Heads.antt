@@ -28,7 +28,7 @@ headed (DefinitionCall i p) = definition_call i (parameter_of p)
 headed (Parallel f g) = parallel (expression f) (expression g)
 headed (Sequential x f g) = sequential x (expression f) (expression g)
 headed (Pruning x f g) = pruning x (expression f) (expression g)
-headed (Pending k s v c) = pending k s v c
+headed (Pending p) = pending p.ticket p.site p.value p.clock
 
 -- The parts of a head are stretches of the form: behind the command and its operand, one behind the other.
 abbrev pub MadeOf : List ℕ → Head → Type 0
@@ -38,7 +38,7 @@ MadeOf bs (DefinitionCall i p) = Unit {0}
 MadeOf bs (Parallel f g) = bs ≡ 3 ∷ (f.bytes.now ++ g.bytes.now)
 MadeOf bs (Sequential x f g) = bs ≡ 4 ∷ x ∷ (f.bytes.now ++ g.bytes.now)
 MadeOf bs (Pruning x f g) = bs ≡ 5 ∷ x ∷ (f.bytes.now ++ g.bytes.now)
-MadeOf bs (Pending k s v c) = Unit {0}
+MadeOf bs (Pending p) = Unit {0}
 
 -- so the form is longer than its parts by the command and its operand
 abbrev pub Longer : ℕ → Head → Type 0
@@ -48,7 +48,7 @@ Longer n (DefinitionCall i p) = Unit {0}
 Longer n (Parallel f g) = n ≡ length f.bytes.now + length g.bytes.now + 1
 Longer n (Sequential x f g) = n ≡ length f.bytes.now + length g.bytes.now + 2
 Longer n (Pruning x f g) = n ≡ length f.bytes.now + length g.bytes.now + 2
-Longer n (Pending k s v c) = Unit {0}
+Longer n (Pending p) = Unit {0}
 
 -- the parts of a head are forms themselves
 abbrev pub MadeOfForms : Head → Type 0
@@ -58,7 +58,7 @@ MadeOfForms (DefinitionCall i p) = Unit {0}
 MadeOfForms (Parallel f g) = IsForm f.bytes.now × IsForm g.bytes.now
 MadeOfForms (Sequential x f g) = IsForm f.bytes.now × IsForm g.bytes.now
 MadeOfForms (Pruning x f g) = IsForm f.bytes.now × IsForm g.bytes.now
-MadeOfForms (Pending k s v c) = Unit {0}
+MadeOfForms (Pending p) = Unit {0}
 
 -- A list is two parts, one behind the other, as reading takes them; and if it is the bytes of two expressions, the parts
 -- are these.

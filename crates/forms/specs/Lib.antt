@@ -1,3 +1,6 @@
+pub mod Commands
+pub mod Marks
+pub mod Pendings
 pub mod Reading
 pub mod Shapes
 pub mod Heads

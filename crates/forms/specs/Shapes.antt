@@ -12,15 +12,15 @@ pub record WholeCommand (bs : List ℕ) (at : ℕ) : Type 0 where
   pub of_a_form : byte_at bs at ≤ 6
   pub whole : at + width_of (byte_at bs at) ≤ length bs
 
--- The bytes from an offset up to another have the shape of a form: a command with its operands, and then its parts.
-pub data FormAt (bs : List ℕ) : ℕ → ℕ → Type 0 where
-  without_parts : {at end : ℕ} → WholeCommand bs at → has_parts (byte_at bs at) ≡ false → end ≡ at + width_of (byte_at bs at) → FormAt bs at end
-  with_parts : {at middle end : ℕ} → WholeCommand bs at → has_parts (byte_at bs at) ≡ true → FormAt bs (at + width_of (byte_at bs at)) middle → FormAt bs middle end → FormAt bs at end
+-- The bytes from an offset up to another have the shape of a form, by a rule that says where its commands may stand: a command
+-- with its operands, and then its parts.
+pub data FormBy (Rule : ℕ → Type 0) (bs : List ℕ) : ℕ → ℕ → Type 0 where
+  without_parts : {at end : ℕ} → Rule at → has_parts (byte_at bs at) ≡ false → end ≡ at + width_of (byte_at bs at) → FormBy Rule bs at end
+  with_parts : {at middle end : ℕ} → Rule at → has_parts (byte_at bs at) ≡ true → FormBy Rule bs (at + width_of (byte_at bs at)) middle → FormBy Rule bs middle end → FormBy Rule bs at end
 
--- Where a part ends that begins at an offset: where its form ends, or if none stands there, where the bytes end.
-pub data PartEnd (bs : List ℕ) (at end : ℕ) : Type 0 where
-  behind_form : FormAt bs at end → PartEnd bs at end
-  behind_all : ((e : ℕ) → FormAt bs at e → ⊥) → end ≡ length bs → PartEnd bs at end
+-- any whole command may stand anywhere
+abbrev pub FormAt : List ℕ → ℕ → ℕ → Type 0
+FormAt bs = FormBy (WholeCommand bs) bs
 
 -- a command with a parameter is a site call or a definition call
 abbrev pub has_parameter : ℕ → Bool

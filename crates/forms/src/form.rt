@@ -1,12 +1,15 @@
 // A form, its head and its parts.
-ghost use Rattle.std.specs.Prelude.{◌≡◌, ◌+◌, ◌≤◌, length, drop};
+ghost use Rattle.std.specs.Prelude.{◌≡◌, ◌+◌, ◌≤◌, length};
+ghost use Rattle.orc.specs.Expressions.{parameter_bytes};
 ghost use Rattle.orc.specs.Variables.{is_variable};
-ghost use Rattle.forms.specs.Shapes.{PartEnd};
 ghost use Rattle.forms.specs.Heads.{expression, parameter_of, headed, IsForm, MadeOf, Longer, MadeOfForms, TwoParts};
-ghost use Rattle.formats.specs.Operands.{byte_at, two_at, four_at};
 ghost use Rattle.forms.specs.Reading.{parameter_at};
 
-use crate::ends::{form_end, whole_command};
+use crate::command::Command;
+use crate::ends::form_end;
+use crate::mark::Mark;
+use crate::pending::Pending;
+use crate::scan::{Rule, Whole};
 
 // Bytes that are read as a form. What stands behind a complete form does not count, and where the bytes are no form, what
 // cannot be read is stop.
@@ -26,52 +29,21 @@ pub enum Parameter {
 #[derive(Clone, Copy)]
 pub enum Head<'a> {
     Stop,
-    SiteCall {
-        site: u8,
-        parameter: Parameter,
-    },
-    DefinitionCall {
-        number: u8,
-        parameter: Parameter,
-    },
+    SiteCall { site: u8, parameter: Parameter },
+    DefinitionCall { number: u8, parameter: Parameter },
     Parallel(Form<'a>, Form<'a>),
     Sequential(u8, Form<'a>, Form<'a>),
     Pruning(u8, Form<'a>, Form<'a>),
-    Pending {
-        ticket: u32,
-        site: u8,
-        value: u16,
-        clock: u32,
-    },
+    Pending(Pending),
 }
 
-// Where the part ends that begins at an offset.
-fn part_end(bytes: &[u8], at: usize) -> usize
-    requires { at ≤ length bytes.now }
-    ensures within { (at ≤ result) × (result ≤ length bytes.now) }
-    ensures end { PartEnd bytes.now at result }
+// The two parts that the bytes behind a command are, one behind the other.
+fn parts<'a>(bytes: &'a [u8]) -> (Form<'a>, Form<'a>)
+    ensures { TwoParts bytes.now result.0.bytes.now result.1.bytes.now }
 {
-    match form_end(bytes, at) {
-        Some(end) => end,
-        None => bytes.len(),
-    }
-}
-
-// The two parts that begin at an offset, one behind the other.
-fn parts<'a>(bytes: &'a [u8], at: usize) -> (Form<'a>, Form<'a>)
-    requires { at ≤ length bytes.now }
-    ensures { TwoParts (drop at bytes.now) result.0.bytes.now result.1.bytes.now }
-{
-    let end = part_end(bytes, at);
-    let len = bytes.len();
-    (
-        Form {
-            bytes: &bytes[at..end],
-        },
-        Form {
-            bytes: &bytes[end..len],
-        },
-    )
+    let end = form_end(bytes, 0).unwrap_or(bytes.len());
+    let (left, right) = bytes.split_at(end);
+    (Form::new(left), Form::new(right))
 }
 
 // The parameter at an offset.
@@ -80,26 +52,26 @@ fn parameter_at(bytes: &[u8], at: usize) -> Parameter
     ensures { parameter_of result ≡ parameter_at bytes.now at }
 {
     let number = u16::from_be_bytes([bytes[at + 1], bytes[at + 2]]);
-    match bytes[at] {
-        0 => Parameter::Value(number),
+    match Mark::try_from(bytes[at]) {
+        Ok(Mark::Value) => Parameter::Value(number),
         _ => Parameter::Variable(number),
     }
 }
 
-// The head of a pending call.
-fn pending_head<'a>(bytes: &[u8]) -> Head<'a>
-    requires { 12 ≤ length bytes.now }
-    ensures { result ≡ Head.Pending (four_at bytes.now 1) (byte_at bytes.now 5) (two_at bytes.now 6) (four_at bytes.now 8) }
-{
-    Head::Pending {
-        ticket: u32::from_be_bytes([bytes[1], bytes[2], bytes[3], bytes[4]]),
-        site: bytes[5],
-        value: u16::from_be_bytes([bytes[6], bytes[7]]),
-        clock: u32::from_be_bytes([bytes[8], bytes[9], bytes[10], bytes[11]]),
-    }
-}
-
 impl Parameter {
+    ghost use Rattle.std.specs.Prelude.{ℕ, MatchOption, ◌≢◌};
+    ghost use Rattle.orc.specs.Expressions.{value};
+
+    // Its value, if it is one.
+    pub fn value(self) -> Option<u16>
+        ensures { MatchOption result ((v : ℕ) → parameter_of self ≢ value v) (λ v. parameter_of self ≡ value v) }
+    {
+        match self {
+            Parameter::Value(value) => Some(value),
+            Parameter::Variable(_) => None,
+        }
+    }
+
     // Whether it is this variable.
     pub fn is_variable(self, variable: u8) -> bool
         ensures { result ≡ is_variable variable (parameter_of self) }
@@ -108,6 +80,18 @@ impl Parameter {
             Parameter::Value(_) => false,
             Parameter::Variable(x) => u16::from(variable) == x,
         }
+    }
+
+    // Its bytes: the mark, and the number with the higher byte first.
+    pub fn to_bytes(self) -> [u8; 3]
+        ensures { result ≡ parameter_bytes (parameter_of self) }
+    {
+        let (mark, number) = match self {
+            Parameter::Value(value) => (Mark::Value, value),
+            Parameter::Variable(variable) => (Mark::Variable, variable),
+        };
+        let [high, low] = number.to_be_bytes();
+        [mark as u8, high, low]
     }
 }
 
@@ -134,32 +118,35 @@ impl<'a> Form<'a> {
         ensures forms { IsForm self.entry.bytes.now → MadeOfForms result }
     {
         let bytes = self.bytes;
-        let Some(command) = whole_command(bytes, 0) else {
+        let Some(command) = Whole::command(bytes, 0) else {
             return Head::Stop;
         };
         match command {
-            1 => Head::SiteCall {
+            Command::Stop => Head::Stop,
+            Command::SiteCall => Head::SiteCall {
                 site: bytes[1],
                 parameter: parameter_at(bytes, 2),
             },
-            2 => Head::DefinitionCall {
+            Command::DefinitionCall => Head::DefinitionCall {
                 number: bytes[1],
                 parameter: parameter_at(bytes, 2),
             },
-            3 => {
-                let (f, g) = parts(bytes, 1);
+            Command::Parallel => {
+                let (f, g) = parts(&bytes[1..]);
                 Head::Parallel(f, g)
             }
-            4 => {
-                let (f, g) = parts(bytes, 2);
+            Command::Sequential => {
+                let (f, g) = parts(&bytes[2..]);
                 Head::Sequential(bytes[1], f, g)
             }
-            5 => {
-                let (f, g) = parts(bytes, 2);
+            Command::Pruning => {
+                let (f, g) = parts(&bytes[2..]);
                 Head::Pruning(bytes[1], f, g)
             }
-            6 => pending_head(bytes),
-            _ => Head::Stop,
+            Command::Pending => match Pending::read(bytes, 0) {
+                Some(pending) => Head::Pending(pending),
+                None => Head::Stop,
+            },
         }
     }
 }

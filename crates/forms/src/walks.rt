@@ -7,13 +7,15 @@ use crate::form::{Form, Head};
 
 impl<'a> Form<'a> {
     // Whether a variable stands free somewhere in it.
+    #[tactic(auto, unfolding(orc::specs::Variables::free))]
     pub fn is_free(self, variable: u8) -> bool
         ensures { result ≡ free variable (expression self.entry) }
     {
         match self.head() {
-            Head::Stop | Head::Pending { .. } => false,
-            Head::SiteCall { parameter, .. } => parameter.is_variable(variable),
-            Head::DefinitionCall { parameter, .. } => parameter.is_variable(variable),
+            Head::Stop | Head::Pending(_) => false,
+            Head::SiteCall { parameter, .. } | Head::DefinitionCall { parameter, .. } => {
+                parameter.is_variable(variable)
+            }
             Head::Parallel(f, g) => f.is_free(variable) || g.is_free(variable),
             Head::Sequential(x, f, g) => f.is_free(variable)
                 || (x != variable && g.is_free(variable)),

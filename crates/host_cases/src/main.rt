@@ -83,13 +83,13 @@ fn sheet(rt: &HostRuntime) -> io::Result<()> {
 }
 
 fn pairs(rt: &HostRuntime) -> io::Result<()> {
-    let second = Sheet::new(&OVERLAP);
+    let rows = Sheet::new(&OVERLAP);
+    let host = Pair {
+        first: Local,
+        second: rows,
+        split: 4,
+    };
     for (site, value) in [(3, 8), (4, 8), (5, 8), (31, 7), (32, 7)] {
-        let host = Pair {
-            first: Local,
-            second,
-            split: 4,
-        };
         show(rt, "split 4", &host, site, value)?;
     }
     for (split, site) in [
@@ -102,7 +102,7 @@ fn pairs(rt: &HostRuntime) -> io::Result<()> {
         (255, 255),
     ] {
         let host = Pair {
-            first: second,
+            first: rows,
             second: Local,
             split,
         };
@@ -112,15 +112,18 @@ fn pairs(rt: &HostRuntime) -> io::Result<()> {
     Ok(())
 }
 
-fn reports(rt: &HostRuntime) -> io::Result<()> {
-    for (site, value) in [(3, 25), (5, 3), (5, 9), (5, 15), (5, 30), (9, 1)] {
-        let report = replies_report(rt.alloc(), &OVERLAP, site, value)?;
-        let text = report.text.as_str();
-        print!(rt; "{text}")?;
-    }
-    let report = replies_report(rt.alloc(), &REFUSED, 5, 0)?;
+// The report on a call, for a controller with a sheet.
+fn report(rt: &HostRuntime, sheet: &[u8], site: u8, value: u16) -> io::Result<()> {
+    let report = replies_report(rt.alloc(), sheet, site, value)?;
     let text = report.text.as_str();
     print!(rt; "{text}")
+}
+
+fn reports(rt: &HostRuntime) -> io::Result<()> {
+    for (site, value) in [(3, 25), (5, 3), (5, 9), (5, 15), (5, 30), (9, 1)] {
+        report(rt, &OVERLAP, site, value)?;
+    }
+    report(rt, &REFUSED, 5, 0)
 }
 
 fn main(rt: HostRuntime) -> io::Result<()> {

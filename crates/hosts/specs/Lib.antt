@@ -1,3 +1,4 @@
 pub mod Answers
+pub mod LocalSites
 pub mod Meanings
 pub mod Laws

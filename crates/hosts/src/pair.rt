@@ -18,37 +18,37 @@ impl<A: Host, B: Host> Host for Pair<A, B> {
     ghost laws = { λ p. pair_lawful (A.Host.meaning p.first) (B.Host.meaning p.second) p.split (A.Host.laws p.first) (B.Host.laws p.second) };
 
     fn knows(&self, site: u8) -> bool {
-        if site < self.split {
-            return self.first.knows(site);
+        match site.checked_sub(self.split) {
+            None => self.first.knows(site),
+            Some(offset) => self.second.knows(offset),
         }
-        self.second.knows(site - self.split)
     }
 
     fn window_count(&self, site: u8, value: u16) -> usize {
-        if site < self.split {
-            return self.first.window_count(site, value);
+        match site.checked_sub(self.split) {
+            None => self.first.window_count(site, value),
+            Some(offset) => self.second.window_count(offset, value),
         }
-        self.second.window_count(site - self.split, value)
     }
 
     fn ticks(&self, site: u8, value: u16, number: usize) -> Option<(u32, u32)> {
-        if site < self.split {
-            return self.first.ticks(site, value, number);
+        match site.checked_sub(self.split) {
+            None => self.first.ticks(site, value, number),
+            Some(offset) => self.second.ticks(offset, value, number),
         }
-        self.second.ticks(site - self.split, value, number)
     }
 
     fn values(&self, site: u8, value: u16, number: usize) -> Option<(u16, u16)> {
-        if site < self.split {
-            return self.first.values(site, value, number);
+        match site.checked_sub(self.split) {
+            None => self.first.values(site, value, number),
+            Some(offset) => self.second.values(offset, value, number),
         }
-        self.second.values(site - self.split, value, number)
     }
 
     fn silent(&self, site: u8, value: u16) -> bool {
-        if site < self.split {
-            return self.first.silent(site, value);
+        match site.checked_sub(self.split) {
+            None => self.first.silent(site, value),
+            Some(offset) => self.second.silent(offset, value),
         }
-        self.second.silent(site - self.split, value)
     }
 }

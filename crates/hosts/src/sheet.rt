@@ -1,12 +1,12 @@
 // A site sheet as a host.
-ghost use Rattle.std.specs.Prelude.{◌≡◌, map, MatchOption};
+ghost use Rattle.std.specs.Prelude.{◌≡◌, MatchOption};
 ghost use Rattle.std.specs.Option.{option_map};
-ghost use Rattle.orc.specs.Meaning.{handle, some};
+ghost use Rattle.orc.specs.Meaning.{handle};
 ghost use Rattle.orc.specs.Expressions.{entry as nth};
 ghost use Rattle.orc.specs.Local.{never};
 ghost use Rattle.sheets.specs.Format.{Outcome, SheetOutcome};
 ghost use Rattle.sheets.specs.Rows.{row_of, rows_of, window_of};
-ghost use Rattle.hosts.specs.Meanings.{names, holds, row_handle, sheet_handle, sheet_meaning, outcome_meaning};
+ghost use Rattle.hosts.specs.Meanings.{holds, row_handle, sheet_handle, sheet_meaning, outcome_meaning};
 ghost use Rattle.hosts.specs.Laws.{sheet_lawful};
 
 use crate::host::Host;
@@ -19,96 +19,68 @@ pub struct Sheet {
     rows: Rows,
 }
 
-// Whether a row names a site.
-fn named(rows: &[Row], site: u8) -> bool
-    ensures { result ≡ some (names site) (map row_of rows.now) }
-{
-    for row in rows {
-        if row.site() == site {
-            return true;
-        }
-    }
-    false
-}
-
 // Whether a row holds a value of a site.
 fn holds_call(row: &Row, site: u8, value: u16) -> bool
     ensures { result ≡ holds site value (row_of row.now) }
 {
     let (first, last) = row.arguments();
-    row.site() == site && first <= value && value <= last
-}
-
-// The first row that holds a value of a site.
-fn holder(rows: &[Row], site: u8, value: u16) -> Option<Row>
-    ensures { MatchOption result (sheet_handle (map row_of rows.now) site value ≡ never) (λ row. handle (sheet_meaning (map row_of rows.now)) site value ≡ row_handle (row_of row)) }
-{
-    for row in rows {
-        if holds_call(row, site, value) {
-            return Some(*row);
-        }
-    }
-    None
+    row.site() == site && (first..=last).contains(&value)
 }
 
 impl Sheet {
     // The host of a sheet's bytes: its meaning is that of what the bytes come to.
     pub fn new(bytes: &[u8]) -> Sheet
-        ensures { (o : Outcome) × SheetOutcome bytes.now o × (sheet_meaning (rows_of result.rows.draft) ≡ outcome_meaning o) }
+        ensures { (o : Outcome) × SheetOutcome bytes.now o × (sheet_meaning (rows_of result.rows.list) ≡ outcome_meaning o) }
     {
-        match read_sheet(bytes) {
-            Ok(rows) => Sheet { rows },
-            Err(_) => Sheet { rows: Rows::none() },
+        Sheet {
+            rows: read_sheet(bytes).unwrap_or_default(),
         }
+    }
+
+    // The first row that holds a value of a site.
+    fn holder(&self, site: u8, value: u16) -> Option<&Row>
+        ensures { MatchOption result (sheet_handle (rows_of self.now.rows.list) site value ≡ never) (λ row. handle (sheet_meaning (rows_of self.now.rows.list)) site value ≡ row_handle (row_of row.now)) }
+    {
+        self.rows
+            .as_slice()
+            .iter()
+            .find(|row| holds_call(row, site, value))
     }
 
     // The window of a number in the handle of a call.
     fn window(&self, site: u8, value: u16, number: usize) -> Option<Window>
-        ensures { option_map window_of result ≡ nth (handle (sheet_meaning (rows_of self.now.rows.draft)) site value).windows number }
+        ensures { option_map window_of result ≡ nth (handle (sheet_meaning (rows_of self.now.rows.list)) site value).windows number }
     {
-        let row = holder(self.rows.as_slice(), site, value)?;
-        let windows = row.windows();
-        if number >= windows.len() {
-            return None;
-        }
-        Some(windows[number])
+        self.holder(site, value)?.windows().get(number).copied()
     }
 }
 
 impl Host for Sheet {
-    ghost meaning = { λ s. sheet_meaning (rows_of s.rows.draft) };
+    ghost meaning = { λ s. sheet_meaning (rows_of s.rows.list) };
 
-    ghost laws = { λ s. sheet_lawful (rows_of s.rows.draft) s.rows.sound };
+    ghost laws = { λ s. sheet_lawful (rows_of s.rows.list) s.rows.sound };
 
     fn knows(&self, site: u8) -> bool {
-        named(self.rows.as_slice(), site)
+        self.rows.as_slice().iter().any(|row| row.site() == site)
     }
 
     fn window_count(&self, site: u8, value: u16) -> usize {
-        match holder(self.rows.as_slice(), site, value) {
-            Some(row) => row.windows().len(),
-            None => 0,
-        }
+        self.holder(site, value)
+            .map_or(0, |row| row.windows().len())
     }
 
     fn ticks(&self, site: u8, value: u16, number: usize) -> Option<(u32, u32)> {
-        match self.window(site, value, number) {
-            Some(window) => Some((window.earliest, window.latest)),
-            None => None,
-        }
+        self.window(site, value, number)
+            .map(|window| (window.earliest, window.latest))
     }
 
     fn values(&self, site: u8, value: u16, number: usize) -> Option<(u16, u16)> {
-        match self.window(site, value, number) {
-            Some(window) => Some((window.lowest, window.highest)),
-            None => None,
-        }
+        self.window(site, value, number)
+            .map(|window| (window.lowest, window.highest))
     }
 
     fn silent(&self, site: u8, value: u16) -> bool {
-        match holder(self.rows.as_slice(), site, value) {
-            Some(row) => row.silent(),
-            None => self.knows(site),
-        }
+        self.holder(site, value)
+            .map_or_else(|| self.knows(site), |row| row.silent())
     }
 }

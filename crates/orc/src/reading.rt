@@ -2,8 +2,6 @@
 ghost use Rattle.orc.specs.Reading.{UniqueReading};
 
 // Two forms that begin the same bytes are one.
-pub fn unique_reading() -> u8
+pub fn unique_reading()
     ensures { UniqueReading }
-{
-    0
-}
+{}

@@ -1,3 +1,1 @@
-pub mod Openings
-pub mod Scaling
 pub mod Smallest

@@ -1,8 +1,9 @@
 -- The picture of a run: its scale, its first line, and what is said of an ending. Assumes nothing.
-use Rattle.std.specs.Prelude.{◌≡◌, ℕ, ◌*◌, ◌<◌, ◌≤◌, cond, List, [], ◌∷◌, ◌++◌, codes, decimal, nat_lt}
+use Rattle.std.specs.Prelude.{◌≡◌, ℕ, ◌*◌, ◌<◌, ◌≤◌, List, ◌++◌, codes, decimal, nat_lt, find, unwrap_or}
 use Rattle.pictures.specs.declared.lane.Ending.{Ending}
 use Rattle.pictures.specs.declared.lane.Ending.TheVariants.{Answered, Withdrawn, Lapsed, Standing}
 use Rattle.pictures.specs.declared.lane.Lane.{Lane}
+use Rattle.pictures.specs.declared.lane.Publication.{Publication}
 
 -- the scales: 1, 2 and 5, and ten times any scale
 pub data Series : ℕ → Type 0 where
@@ -19,25 +20,28 @@ pub record Scale (clock ticks : ℕ) : Type 0 where
 
 -- the first of some scales at which a clock fits, and 100000000 if there is none
 abbrev pub first_fit : ℕ → List ℕ → ℕ
-first_fit clock [] = 100000000
-first_fit clock (ticks ∷ more) = cond (nat_lt clock (60 * ticks)) ticks (first_fit clock more)
+first_fit clock steps = unwrap_or (find (λ ticks. nat_lt clock (60 * ticks)) steps) 100000000
 
 -- the character that ends a bar, and what is said in words
 abbrev pub mark_of : Ending → List ℕ
-mark_of (Answered v) = codes "x"
-mark_of Withdrawn = codes "/"
-mark_of Lapsed = codes "!"
+mark_of (Answered v at) = codes "x"
+mark_of (Withdrawn at) = codes "/"
+mark_of (Lapsed at) = codes "!"
 mark_of Standing = codes ">"
 
-abbrev pub ending_text : Ending → ℕ → List ℕ
-ending_text (Answered v) tick = codes "answered " ++ (decimal v ++ (codes " at " ++ decimal tick))
-ending_text Withdrawn tick = codes "withdrawn at " ++ decimal tick
-ending_text Lapsed tick = codes "lapsed at " ++ decimal tick
-ending_text Standing tick = codes "standing"
+abbrev pub ending_text : Ending → List ℕ
+ending_text (Answered v at) = codes "answered " ++ (decimal v ++ (codes " at " ++ decimal at))
+ending_text (Withdrawn at) = codes "withdrawn at " ++ decimal at
+ending_text (Lapsed at) = codes "lapsed at " ++ decimal at
+ending_text Standing = codes "standing"
 
 -- what stands in front of a bar
 abbrev pub label_text : Lane → List ℕ
 label_text l = codes "ticket " ++ (decimal l.ticket ++ (codes "  site " ++ (decimal l.site ++ (codes " (" ++ (decimal l.value ++ codes ")")))))
+
+-- a publication in the list of a picture
+abbrev pub value_text : Publication → List ℕ
+value_text p = decimal p.clock ++ (codes ": " ++ decimal p.value)
 
 -- the first line of a picture, and what stands in its place where there is nothing to draw
 abbrev pub heading : ℕ → ℕ → List ℕ

@@ -1,15 +1,15 @@
 // What a picture shows: the calls of sites, each with its ticket, and the publications.
-ghost use Rattle.std.specs.Prelude.{◌≡◌, IfOk, string_bytes};
-ghost use Rattle.pictures.specs.Drawings.{mark_of, ending_text, label_text};
+ghost use Rattle.std.specs.Prelude.{◌≡◌, Some};
+ghost use Rattle.pictures.specs.Drawings.{mark_of, ending_text, label_text, value_text};
 
-use std::alloc::{AllocError, Global};
+use std::fmt;
 
-// How a call ended: answered with a value, withdrawn, lapsed, or not yet.
+// How a call ended, and at which tick: answered with a value, withdrawn, lapsed, or not yet.
 #[derive(Clone, Copy)]
 pub enum Ending {
-    Answered(u16),
-    Withdrawn,
-    Lapsed,
+    Answered { value: u16, at: u32 },
+    Withdrawn { at: u32 },
+    Lapsed { at: u32 },
     Standing,
 }
 
@@ -21,7 +21,6 @@ pub struct Lane {
     pub site: u8,
     pub value: u16,
     pub from: u32,
-    pub to: u32,
     pub end: Ending,
 }
 
@@ -38,32 +37,59 @@ impl Ending {
         ensures { result.now ≡ mark_of self.now }
     {
         match self {
-            Ending::Answered(_) => "x",
-            Ending::Withdrawn => "/",
-            Ending::Lapsed => "!",
+            Ending::Answered { .. } => "x",
+            Ending::Withdrawn { .. } => "/",
+            Ending::Lapsed { .. } => "!",
             Ending::Standing => ">",
+        }
+    }
+
+    // The tick of the end, or none while the call stands.
+    pub(crate) fn tick(&self) -> Option<u32> {
+        match self {
+            Ending::Answered { at, .. } | Ending::Withdrawn { at } | Ending::Lapsed { at } => {
+                Some(*at)
+            }
+            Ending::Standing => None,
         }
     }
 }
 
 // How a call ended, in words, with the tick.
-pub(crate) fn ending_words(heap: Global, end: Ending, tick: u32) -> Result<String, AllocError>
-    ensures { IfOk result (λ t. string_bytes t ≡ ending_text end tick) }
-{
-    match end {
-        Ending::Answered(value) => format!(in heap; "answered {value} at {tick}"),
-        Ending::Withdrawn => format!(in heap; "withdrawn at {tick}"),
-        Ending::Lapsed => format!(in heap; "lapsed at {tick}"),
-        Ending::Standing => String::from_str(heap, "standing"),
+impl fmt::Display for Ending {
+    ghost output = { λ e. Some (ending_text e) };
+
+    fn fmt<W: fmt::Write>(&self, f: &mut fmt::Formatter<W>) -> fmt::Result {
+        match self {
+            Ending::Answered { value, at } => write!(f, "answered {value} at {at}"),
+            Ending::Withdrawn { at } => write!(f, "withdrawn at {at}"),
+            Ending::Lapsed { at } => write!(f, "lapsed at {at}"),
+            Ending::Standing => f.write_str("standing"),
+        }
     }
 }
 
-// What stands in front of a call's bar.
-pub(crate) fn label(heap: Global, lane: &Lane) -> Result<String, AllocError>
-    ensures { IfOk result (λ t. string_bytes t ≡ label_text lane.now) }
-{
-    let ticket = lane.ticket;
-    let site = lane.site;
-    let value = lane.value;
-    format!(in heap; "ticket {ticket}  site {site} ({value})")
+// What stands in front of the call's bar.
+impl fmt::Display for Lane {
+    ghost output = { λ l. Some (label_text l) };
+
+    fn fmt<W: fmt::Write>(&self, f: &mut fmt::Formatter<W>) -> fmt::Result {
+        let Lane {
+            ticket,
+            site,
+            value,
+            ..
+        } = self;
+        write!(f, "ticket {ticket}  site {site} ({value})")
+    }
+}
+
+// `35: 7`
+impl fmt::Display for Publication {
+    ghost output = { λ p. Some (value_text p) };
+
+    fn fmt<W: fmt::Write>(&self, f: &mut fmt::Formatter<W>) -> fmt::Result {
+        let Publication { clock, value } = self;
+        write!(f, "{clock}: {value}")
+    }
 }

@@ -2,9 +2,10 @@
 ghost use Rattle.std.specs.Prelude.{◌≡◌, ℕ, ◌+◌, ◌<◌, length, IfOk, string_bytes};
 ghost use Rattle.pictures.specs.Drawings.{Begins, heading, quiet_line, Scale};
 
-use crate::lane::{Ending, Lane, Publication, ending_words, label};
-use crate::scale::{column, scale};
+use crate::lane::{Lane, Publication};
+use crate::scale::Spacing;
 use std::alloc::{AllocError, Global};
+use std::iter;
 
 // What stands in front of the marks of publications.
 const PUBLISHED: &str = "published";
@@ -41,226 +42,162 @@ fn drawn(
 ) -> Result<String, AllocError>
     ensures { IfOk result (λ t. (n : ℕ) × Scale clock n × Begins (heading n clock) (string_bytes t)) }
 {
-    let ticks = scale(clock);
-    let drawing = drawing(heap, lanes, publications, clock, ticks)?;
-    let mut text = format!(in heap; "ticks in a column: {ticks}, clock: {clock}\n")?;
-    text.push_str(drawing.as_str())?;
-    Ok(text)
+    let drawing = Drawing::new(heap, lanes, clock)?;
+    let ticks = drawing.spacing.ticks;
+    let lines = drawing.with_lines(lanes, publications)?;
+    format!(in heap; "ticks in a column: {ticks}, clock: {clock}\n{lines}")
 }
 
-// All lines below the first.
-fn drawing(
-    heap: Global,
-    lanes: &[Lane],
-    publications: &[Publication],
-    clock: u32,
-    ticks: u32,
-) -> Result<String, AllocError>
-    requires { 0 < ticks }
-{
-    let margin = margin(heap, lanes)?;
-    let last = column(clock, ticks);
-    let mut text = String::new(heap);
-    add_ticks(heap, &mut text, margin, last, ticks)?;
-    add_ruler(&mut text, margin, last)?;
-    add_lanes(heap, &mut text, lanes, margin, last, ticks)?;
-    add_publications(heap, &mut text, publications, margin, ticks)?;
-    Ok(text)
-}
-
-// How many characters stand in front of each bar.
-fn margin(heap: Global, lanes: &[Lane]) -> Result<usize, AllocError> {
-    let mut widest = PUBLISHED.len();
-    for lane in lanes {
-        let label = label(heap, lane)?;
-        widest = widest.max(label.len());
-    }
-    Ok(widest.saturating_add(2))
-}
-
-// The ticks, one over every twentieth column.
-fn add_ticks(
-    heap: Global,
-    text: &mut String,
+// The lines of a picture below its heading, as they are drawn: the text so far, how many characters stand in front of each
+// bar, the ticks of a column, and the last column.
+#[derive(Drop)]
+struct Drawing {
+    text: String,
     margin: usize,
-    last: u32,
-    ticks: u32,
-) -> Result<(), AllocError> {
-    add_padded(text, "", margin)?;
-    for at in 0..=last {
-        if at % 20 == 0 {
-            add_tick(heap, text, u64::from(at) * u64::from(ticks), last - at)?;
+    spacing: Spacing,
+    last: u8,
+}
+
+impl Drawing {
+    // No line so far. The margin has room for each label.
+    fn new(heap: Global, lanes: &[Lane], clock: u32) -> Result<Drawing, AllocError>
+        ensures { IfOk result (λ d. Scale clock d.spacing.ticks) }
+    {
+        let spacing = Spacing::of(clock);
+        let widest = lanes.iter().try_fold(
+            PUBLISHED.len(),
+            |widest, lane| -> Result<usize, AllocError> {
+                Ok(widest.max(lane.to_string(heap)?.len()))
+            },
+        )?;
+        Ok(Drawing {
+            text: String::new(heap),
+            margin: widest.saturating_add(2),
+            spacing,
+            last: spacing.column(clock),
+        })
+    }
+
+    // The text of all lines.
+    fn with_lines(
+        mut self,
+        lanes: &[Lane],
+        publications: &[Publication],
+    ) -> Result<String, AllocError> {
+        self.add_ticks()?;
+        self.add_ruler()?;
+        self.add_lanes(lanes)?;
+        self.add_publications(publications)?;
+        Ok(self.text)
+    }
+
+    // The ticks, one over every twentieth column, with room up to the next one where that is not past the last column.
+    fn add_ticks(&mut self) -> Result<(), AllocError> {
+        self.add_padded("")?;
+        let last = self.last;
+        for at in (0..=last).filter(|at| *at % 20 == 0) {
+            let tick = u64::from(at) * u64::from(self.spacing.ticks);
+            let room = if at / 20 == last / 20 { 0 } else { 20 };
+            write!(self.text, "{tick:<room$}")?;
         }
+        self.text.push_str("\n")
     }
-    text.push_str("\n")
-}
 
-// The ruler below them, with a cross at every tenth column.
-fn add_ruler(text: &mut String, margin: usize, last: u32) -> Result<(), AllocError> {
-    add_padded(text, "", margin)?;
-    for at in 0..=last {
-        text.push_str(if at % 10 == 0 { "+" } else { "." })?;
+    // The ruler below them, with a cross at every tenth column.
+    fn add_ruler(&mut self) -> Result<(), AllocError> {
+        self.add_padded("")?;
+        let marks = (0..=self.last).map(|at| if at % 10 == 0 { '+' } else { '.' });
+        self.text.extend(marks)?;
+        self.text.push_str("\n")
     }
-    text.push_str("\n")
-}
 
-// A tick over its column, with room up to the next one where that is not past the last column.
-fn add_tick(heap: Global, text: &mut String, tick: u64, left: u32) -> Result<(), AllocError> {
-    let number = format!(in heap; "{tick}")?;
-    add_padded(text, number.as_str(), if left < 20 { 0 } else { 20 })
-}
+    // The lines of the calls, and then the marks explained.
+    fn add_lanes(&mut self, lanes: &[Lane]) -> Result<(), AllocError> {
+        if lanes.is_empty() {
+            return self.text.push_str("no ticket\n");
+        }
+        for lane in lanes {
+            self.add_lane(lane)?;
+        }
+        self.text.push_str(LEGEND)
+    }
 
-// The lines of the calls, and then the marks explained.
-fn add_lanes(
-    heap: Global,
-    text: &mut String,
-    lanes: &[Lane],
-    margin: usize,
-    last: u32,
-    ticks: u32,
-) -> Result<(), AllocError>
-    requires { 0 < ticks }
-{
-    if lanes.is_empty() {
-        return text.push_str("no ticket\n");
+    // The line of a call: its label, its bar, and when it was made and how it ended.
+    fn add_lane(&mut self, lane: &Lane) -> Result<(), AllocError> {
+        let label = lane.to_string(*self.text.allocator())?;
+        self.add_padded(label.as_str())?;
+        self.add_bar(lane)?;
+        let from = lane.from;
+        let end = lane.end;
+        write!(self.text, "  called at {from}, {end}\n")
     }
-    for lane in lanes {
-        add_lane(heap, text, lane, margin, last, ticks)?;
-    }
-    text.push_str(LEGEND)
-}
 
-// The line of a call: its label, its bar, and when it was made and how it ended.
-fn add_lane(
-    heap: Global,
-    text: &mut String,
-    lane: &Lane,
-    margin: usize,
-    last: u32,
-    ticks: u32,
-) -> Result<(), AllocError>
-    requires { 0 < ticks }
-{
-    let label = label(heap, lane)?;
-    add_padded(text, label.as_str(), margin)?;
-    add_bar(text, lane, last, ticks)?;
-    let start = lane.from;
-    let end = ending_words(heap, lane.end, lane.to)?;
-    let words = format!(in heap; "  called at {start}, {end}\n")?;
-    text.push_str(words.as_str())
-}
+    // A bar from the column of the call to that of its end, and spaces up to the last column.
+    fn add_bar(&mut self, lane: &Lane) -> Result<(), AllocError> {
+        let spacing = self.spacing;
+        let from = spacing.column(lane.from);
+        let to = lane.end.tick().map_or(self.last, |at| spacing.column(at));
+        self.add_repeated(' ', from)?;
+        if from < to {
+            self.text.push('|')?;
+            self.add_repeated('-', to - from - 1)?;
+        }
+        self.text.push_str(lane.end.mark())?;
+        self.add_repeated(' ', self.last.saturating_sub(to.max(from)))
+    }
 
-// A bar from the column of the call to that of its end, and spaces up to the last column.
-fn add_bar(text: &mut String, lane: &Lane, last: u32, ticks: u32) -> Result<(), AllocError>
-    requires { 0 < ticks }
-{
-    let from = column(lane.from, ticks);
-    let to = match lane.end {
-        Ending::Standing => last,
-        _ => column(lane.to, ticks),
-    };
-    repeat(text, " ", from)?;
-    if from < to {
-        text.push_str("|")?;
-        repeat(text, "-", to - from - 1)?;
+    // The line with a mark for each column up to the last with a publication, and the list of the publications.
+    fn add_publications(&mut self, publications: &[Publication]) -> Result<(), AllocError> {
+        let [first, rest @ ..] = publications else {
+            return self.text.push_str("nothing published\n");
+        };
+        self.add_padded(PUBLISHED)?;
+        for at in 0..=furthest(publications, self.spacing) {
+            let count = count_at(publications, self.spacing, at);
+            self.text.push(count_mark(count))?;
+        }
+        write!(self.text, "\nvalues by tick  {first}")?;
+        for publication in rest {
+            write!(self.text, ", {publication}")?;
+        }
+        self.text.push_str(COUNTS)
     }
-    text.push_str(lane.end.mark())?;
-    repeat(text, " ", last.saturating_sub(to.max(from)))
-}
 
-// The line with a mark for each publication, and their list.
-fn add_publications(
-    heap: Global,
-    text: &mut String,
-    publications: &[Publication],
-    margin: usize,
-    ticks: u32,
-) -> Result<(), AllocError>
-    requires { 0 < ticks }
-{
-    if publications.is_empty() {
-        return text.push_str("nothing published\n");
+    // A text that stands in front of the columns, and spaces after it up to them.
+    fn add_padded(&mut self, label: &str) -> Result<(), AllocError> {
+        let margin = self.margin;
+        write!(self.text, "{label:<margin$}")
     }
-    add_padded(text, PUBLISHED, margin)?;
-    for at in 0..=furthest(publications, ticks) {
-        text.push_str(count_mark(count_at(publications, at, ticks)))?;
-    }
-    text.push_str("\nvalues by tick  ")?;
-    add_values(heap, text, publications)?;
-    text.push_str(COUNTS)
-}
 
-// `35: 7, 80: 2`
-fn add_values(
-    heap: Global,
-    text: &mut String,
-    publications: &[Publication],
-) -> Result<(), AllocError> {
-    let mut before = "";
-    for publication in publications {
-        let clock = publication.clock;
-        let value = publication.value;
-        let entry = format!(in heap; "{before}{clock}: {value}")?;
-        text.push_str(entry.as_str())?;
-        before = ", ";
+    // A character so many times.
+    fn add_repeated(&mut self, mark: char, count: u8) -> Result<(), AllocError> {
+        self.text.extend(iter::repeat_n(mark, usize::from(count)))
     }
-    Ok(())
 }
 
 // The last column with a publication.
-fn furthest(publications: &[Publication], ticks: u32) -> u32
-    requires { 0 < ticks }
-{
-    let mut last = 0;
-    for publication in publications {
-        last = last.max(column(publication.clock, ticks));
-    }
-    last
+fn furthest(publications: &[Publication], spacing: Spacing) -> u8 {
+    publications
+        .iter()
+        .map(|publication| spacing.column(publication.clock))
+        .max()
+        .unwrap_or(0)
 }
 
 // How many publications fall into a column.
-fn count_at(publications: &[Publication], at: u32, ticks: u32) -> usize
-    requires { 0 < ticks }
-{
-    let mut count: usize = 0;
-    for publication in publications {
-        if column(publication.clock, ticks) == at {
-            count = count.saturating_add(1);
-        }
-    }
-    count
+fn count_at(publications: &[Publication], spacing: Spacing, at: u8) -> usize {
+    publications
+        .iter()
+        .filter(|publication| spacing.column(publication.clock) == at)
+        .count()
 }
 
 // The mark of a column with so many publications.
-fn count_mark(count: usize) -> &'static str {
+fn count_mark(count: usize) -> char {
     match count {
-        0 => " ",
-        1 => "*",
-        2 => "2",
-        3 => "3",
-        4 => "4",
-        5 => "5",
-        6 => "6",
-        7 => "7",
-        8 => "8",
-        9 => "9",
-        _ => "+",
+        0 => ' ',
+        1 => '*',
+        2..=9 => char::from(b'0' + count as u8),
+        _ => '+',
     }
-}
-
-// Puts a text at the end of a line, and spaces after it up to a width.
-fn add_padded(line: &mut String, text: &str, width: usize) -> Result<(), AllocError> {
-    line.push_str(text)?;
-    for _ in text.len()..width {
-        line.push_str(" ")?;
-    }
-    Ok(())
-}
-
-// Puts a text at the end of a line so many times.
-fn repeat(line: &mut String, text: &str, count: u32) -> Result<(), AllocError> {
-    for _ in 0..count {
-        line.push_str(text)?;
-    }
-    Ok(())
 }

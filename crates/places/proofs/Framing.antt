@@ -1,15 +1,19 @@
 -- The nearest frame around a place, from a form to its parts and back. Assumes nothing.
-use Rattle.std.proofs.Common.{◌≡◌, ℕ, ◌+◌, ◌-◌, ◌<◌, ◌≤◌, List, length, Some, None, Option, sym, ap, ◌∙◌, subst, ap₂, arith}
+use Rattle.std.proofs.Common.{◌≡◌, ℕ, ◌+◌, ◌-◌, ◌<◌, ◌≤◌, List, length, Some, None, Option, sym, refl, ap, ◌∙◌, subst, ap₂, arith, MatchOption, inl, inr}
 use Rattle.std.specs.Option.{option_or}
 use Rattle.std.proofs.lemmas.Bool.{lt-ltb, le-ltb}
-use Rattle.orc.specs.Expressions.{Expression, size}
+use Rattle.orc.specs.Expressions.{Expression, parallel, sequential, pruning, size}
 use Rattle.forms.specs.Reading.{expression_of}
-use Rattle.forms.specs.Heads.{IsForm}
+use Rattle.forms.specs.Heads.{expression, IsForm}
+use Rattle.forms.specs.declared.form.Form.{Form}
 use Rattle.places.specs.Frames.{moved, first_bytes, Within, by_part, nearest_frame}
-use Rattle.places.specs.declared.frames.Stretch.{Stretch}
+use Rattle.places.specs.Parts.{LiesIn, HasNearest}
+use Rattle.places.specs.declared.frames.Part.{Part}
+use Rattle.places.specs.declared.stretch.Stretch.{Stretch}
+use Rattle.places.proofs.Stretches.{same_offsets}
 
 -- where a place lies
-pub in_front : (p w n : ℕ) (first second : Option Stretch) → p < w → by_part p w n first second ≡ None
+in_front : (p w n : ℕ) (first second : Option Stretch) → p < w → by_part p w n first second ≡ None
 in_front p w n first second before = rw (lt-ltb p w before)
 
 pub in_first : (p w n : ℕ) (first second : Option Stretch) → w ≤ p → p < w + n → by_part p w n first second ≡ first
@@ -23,68 +27,70 @@ within_whole : (w n m : ℕ) → w + n ≤ m → (o : Option Stretch) → Within
 within_whole w n m fits None _ = tt
 within_whole w n m fits (Some s) (some, within) = (omega arith, omega arith)
 
-within_or_whole : (m : ℕ) → 0 < m → (o : Option Stretch) → Within m o → Within m (option_or o (Some (first_bytes m)))
-within_or_whole m some None _ = (omega arith, omega arith)
-within_or_whole m some (Some s) within = within
+-- A form of two parts, the first behind w bytes, each with the frame that is around it: what lies in a part has its nearest
+-- frame there, or else that one.
+module _ (bs : List ℕ) (p w : ℕ) (f g : Form × Option Stretch) {e : Expression} (is : e ≡ expression_of bs) (long : length bs ≡ length f.0.bytes.now + length g.0.bytes.now + w) (forms : IsForm bs → IsForm f.0.bytes.now × IsForm g.0.bytes.now)
+    (some : 0 < w) (around-f : Within (length bs) f.1) (around-g : Within (length bs) g.1)
+    (parts : IsForm bs → nearest_frame p e ≡ by_part p w (length f.0.bytes.now) (option_or (moved w (nearest_frame (p - w) (expression_of f.0.bytes.now))) f.1) (option_or (moved (w + length f.0.bytes.now) (nearest_frame (p - (w + length f.0.bytes.now)) (expression_of g.0.bytes.now))) g.1)) where
+  pub nearest_in_part : (r : Option Part) → LiesIn p w f g r → MatchOption r (IsForm bs → nearest_frame p (expression_of bs) ≡ None) (HasNearest bs p)
+  nearest_in_part None before = λ form. ap (nearest_frame p) (sym is) ∙ parts form ∙ in_front p w _ _ _ before
+  nearest_in_part (Some part) (inl (behind, before, there)) =
+      record {
+        begun = omega (arith, there.place);
+        whole = omega (arith, there.place, ap length there.bytes);
+        shorter = omega (arith, ap length there.bytes);
+        form = λ form. subst IsForm (sym there.bytes) (forms form).0;
+        around = subst (Within (length bs)) (sym there.around) around-f;
+        nearest = λ form. ap (nearest_frame p) (sym is) ∙ parts form ∙ in_first p w _ _ _ behind before ∙ (rw (there.place, there.bytes, there.around));
+      }
+  nearest_in_part (Some part) (inr (behind, there)) =
+      record {
+        begun = omega (arith, there.place);
+        whole = omega (arith, there.place, ap length there.bytes);
+        shorter = omega (arith, ap length there.bytes);
+        form = λ form. subst IsForm (sym there.bytes) (forms form).1;
+        around = subst (Within (length bs)) (sym there.around) around-g;
+        nearest = λ form. ap (nearest_frame p) (sym is) ∙ parts form ∙ in_second p w _ _ _ behind ∙ (rw (there.place, there.bytes, there.around));
+      }
 
--- What is found in a form: the frame, and that it lies within the form.
-abbrev pub Framed : List ℕ → ℕ → Option Stretch → Type 0
-Framed bs p r = record { frame : IsForm bs → r ≡ nearest_frame p (expression_of bs); within : Within (length bs) r }
+-- the bytes of a form, as the code has them
+pub is_first_bytes : (n m : ℕ) (first : 0 ≤ n) → n ≡ m → ◌≡◌ {A = Stretch} (record { at = 0; end = n; in_order = first }) (first_bytes m)
+is_first_bytes n m first same = same_offsets (record { at = 0; end = n; in_order = first }) (first_bytes m) refl same
 
-pub framed_by_none : (bs : List ℕ) (p : ℕ) {e : Expression} → e ≡ expression_of bs → nearest_frame p e ≡ None → Framed bs p None
-framed_by_none bs p is none = record { frame = λ _. sym none ∙ ap (nearest_frame p) is; within = tt }
+-- a part without a frame around it has what it has by itself
+by_itself : (o : Option Stretch) → o ≡ option_or o None
+by_itself None = refl
+by_itself (Some s) = refl
 
--- A form of two parts, the first behind w bytes and of m bytes; a frame that is found in a part is found in the form, and
--- where none is, the form itself may be one.
-module _ (bs fb gb : List ℕ) (p w m : ℕ) (same : m ≡ length fb) {e : Expression} (is : e ≡ expression_of bs) (long : length bs ≡ length fb + length gb + w) (forms : IsForm bs → IsForm fb × IsForm gb) where
-  abbrev F : Expression
-  F = expression_of fb
+module _ (bs : List ℕ) (p : ℕ) (f g : Form) (forms : IsForm bs → IsForm f.bytes.now × IsForm g.bytes.now) where
+  wide : IsForm bs → size (expression f) ≡ length f.bytes.now
+  wide form = ap length (forms form).0
 
-  abbrev G : Expression
-  G = expression_of gb
+  pub nearest_in_parallel : parallel (expression f) (expression g) ≡ expression_of bs → length bs ≡ length f.bytes.now + length g.bytes.now + 1 → (r : Option Part) → LiesIn p 1 (f, None) (g, None) r → MatchOption r (IsForm bs → nearest_frame p (expression_of bs) ≡ None) (HasNearest bs p)
+  unfolding nearest_frame
+  nearest_in_parallel is long r lies =
+      nearest_in_part bs p 1 (f, None) (g, None) is long forms (omega arith) tt tt
+      (λ form. ap (λ n. by_part p 1 n (moved 1 (nearest_frame (p - 1) (expression f))) (moved (1 + n) (nearest_frame (p - (1 + n)) (expression g)))) (wide form) ∙ ap₂ (by_part p 1 (length f.bytes.now)) (by_itself _) (by_itself _))
+      r lies
 
-  wide : IsForm bs → size F ≡ m
-  wide form = ap length (forms form).0 ∙ sym same
+  module _ (whole : Stretch) (is-whole : whole ≡ first_bytes (length bs)) (x : ℕ) (long : length bs ≡ length f.bytes.now + length g.bytes.now + 2) (r : Option Part) where
+    within : Within (length bs) (Some whole)
+    within = subst (λ s. Within (length bs) (Some s)) (sym is-whole) (omega arith, omega arith)
 
-  whole : IsForm bs → length bs ≡ size e
-  whole form = sym (ap length form) ∙ ap size (sym is)
+    -- the bytes of the form itself
+    itself : IsForm bs → {e : Expression} → e ≡ expression_of bs → first_bytes (size e) ≡ whole
+    itself form is = ap first_bytes (ap size is ∙ ap length form) ∙ sym is-whole
 
-  -- the size of the first part, as it is known of a form
-  frame_is : (first : Option Stretch) (second : ℕ → Option Stretch) → nearest_frame p e ≡ by_part p w (size F) first (second (size F)) → IsForm bs → {r : Option Stretch} → by_part p w m first (second m) ≡ r → r ≡ nearest_frame p (expression_of bs)
-  frame_is first second parts form found = sym found ∙ ap (λ n. by_part p w n first (second n)) (sym (wide form)) ∙ sym parts ∙ ap (nearest_frame p) is
+    pub nearest_in_sequential : sequential x (expression f) (expression g) ≡ expression_of bs → LiesIn p 2 (f, Some whole) (g, None) r → MatchOption r (IsForm bs → nearest_frame p (expression_of bs) ≡ None) (HasNearest bs p)
+    unfolding nearest_frame
+    nearest_in_sequential is lies =
+        nearest_in_part bs p 2 (f, Some whole) (g, None) is long forms (omega arith) within tt
+        (λ form. ap₂ (λ n s. by_part p 2 n (option_or (moved 2 (nearest_frame (p - 2) (expression f))) (Some s)) (moved (2 + n) (nearest_frame (p - (2 + n)) (expression g)))) (wide form) (itself form is) ∙ ap (by_part p 2 (length f.bytes.now) _) (by_itself _))
+        r lies
 
-  module _ (second : Option Stretch) (r : Option Stretch) (within : Within (length fb) r) (found : IsForm fb → r ≡ nearest_frame (p - w) F) (behind : w ≤ p) (before : p < w + m) where
-    pub in_first_alone : nearest_frame p e ≡ by_part p w (size F) (moved w (nearest_frame (p - w) F)) second → {r' : Option Stretch} → r' ≡ moved w r → Framed bs p r'
-    in_first_alone parts {r'} is-moved =
-        record {
-          frame = λ form. frame_is (moved w (nearest_frame (p - w) F)) (λ _. second) parts form (in_first p w m _ _ behind before ∙ sym (is-moved ∙ ap (moved w) (found (forms form).0)));
-          within = subst (Within (length bs)) (sym is-moved) (within_whole w (length fb) (length bs) (omega arith) r within);
-        }
-
-    pub in_first_or_whole : nearest_frame p e ≡ by_part p w (size F) (option_or (moved w (nearest_frame (p - w) F)) (Some (first_bytes (size e)))) second → {o r' : Option Stretch} {n : ℕ} → o ≡ moved w r → n ≡ length bs → r' ≡ option_or o (Some (first_bytes n)) → Framed bs p r'
-    in_first_or_whole parts {o} {r'} {n} is-moved all is-or =
-        let is_whole : r' ≡ option_or (moved w r) (Some (first_bytes (length bs))) = is-or ∙ ap₂ (λ o n. option_or o (Some (first_bytes n))) is-moved all in
-        record {
-          frame = λ form.
-              frame_is (option_or (moved w (nearest_frame (p - w) F)) (Some (first_bytes (size e)))) (λ _. second) parts form
-              (in_first p w m _ _ behind before ∙ sym (is_whole ∙ ap₂ (λ o n. option_or (moved w o) (Some (first_bytes n))) (found (forms form).0) (whole form)));
-          within = subst (Within (length bs)) (sym is_whole) (within_or_whole (length bs) (omega arith) (moved w r) (within_whole w (length fb) (length bs) (omega arith) r within));
-        }
-
-  module _ (first : Option Stretch) (r : Option Stretch) (within : Within (length gb) r) (found : IsForm gb → r ≡ nearest_frame (p - (w + m)) G) (behind : w + m ≤ p) where
-    pub in_second_alone : nearest_frame p e ≡ by_part p w (size F) first (moved (w + size F) (nearest_frame (p - (w + size F)) G)) → {r' : Option Stretch} → r' ≡ moved (w + m) r → Framed bs p r'
-    in_second_alone parts {r'} is-moved =
-        record {
-          frame = λ form. frame_is first (λ n. moved (w + n) (nearest_frame (p - (w + n)) G)) parts form (in_second p w m _ _ behind ∙ sym (is-moved ∙ ap (moved (w + m)) (found (forms form).1)));
-          within = subst (Within (length bs)) (sym is-moved) (within_whole (w + m) (length gb) (length bs) (omega arith) r within);
-        }
-
-    pub in_second_or_whole : nearest_frame p e ≡ by_part p w (size F) first (option_or (moved (w + size F) (nearest_frame (p - (w + size F)) G)) (Some (first_bytes (size e)))) → 0 < w → {o r' : Option Stretch} {n : ℕ} → o ≡ moved (w + m) r → n ≡ length bs → r' ≡ option_or o (Some (first_bytes n)) → Framed bs p r'
-    in_second_or_whole parts some {o} {r'} {n} is-moved all is-or =
-        let is_whole : r' ≡ option_or (moved (w + m) r) (Some (first_bytes (length bs))) = is-or ∙ ap₂ (λ o n. option_or o (Some (first_bytes n))) is-moved all in
-        record {
-          frame = λ form.
-              frame_is first (λ n. option_or (moved (w + n) (nearest_frame (p - (w + n)) G)) (Some (first_bytes (size e)))) parts form
-              (in_second p w m _ _ behind ∙ sym (is_whole ∙ ap₂ (λ o n. option_or (moved (w + m) o) (Some (first_bytes n))) (found (forms form).1) (whole form)));
-          within = subst (Within (length bs)) (sym is_whole) (within_or_whole (length bs) (omega arith) (moved (w + m) r) (within_whole (w + m) (length gb) (length bs) (omega arith) r within));
-        }
+    pub nearest_in_pruning : pruning x (expression f) (expression g) ≡ expression_of bs → LiesIn p 2 (f, None) (g, Some whole) r → MatchOption r (IsForm bs → nearest_frame p (expression_of bs) ≡ None) (HasNearest bs p)
+    unfolding nearest_frame
+    nearest_in_pruning is lies =
+        nearest_in_part bs p 2 (f, None) (g, Some whole) is long forms (omega arith) tt within
+        (λ form. ap₂ (λ n s. by_part p 2 n (moved 2 (nearest_frame (p - 2) (expression f))) (option_or (moved (2 + n) (nearest_frame (p - (2 + n)) (expression g))) (Some s))) (wide form) (itself form is) ∙ ap (λ o. by_part p 2 (length f.bytes.now) o (option_or (moved (2 + length f.bytes.now) (nearest_frame (p - (2 + length f.bytes.now)) (expression g))) (Some whole))) (by_itself _))
+        r lies

@@ -1,6 +1,8 @@
 pub mod Seeking
 pub mod Scanning
 pub mod Placing
+pub mod Coming
+pub mod Stretches
 pub mod Framing
 pub mod Gaps
 pub mod Locating

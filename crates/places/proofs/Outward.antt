@@ -1,16 +1,18 @@
 -- The nearest frame around a gap, outward from it. Assumes nothing.
 use Rattle.std.proofs.Common.{◌≡◌, ℕ, ◌+◌, ◌-◌, ◌<◌, length, Some, None, Option, sym, refl, ap, ◌∙◌, subst, arith}
 use Rattle.std.specs.Option.{option_or}
+use Rattle.std.proofs.Math.Nat.{le-add_right}
 use Rattle.std.proofs.lemmas.List.{length-append}
 use Rattle.orc.specs.Expressions.{Expression, sequential, pruning, bytes, size}
-use Rattle.places.specs.Frames.{moved, first_bytes, by_part, nearest_frame}
-use Rattle.places.specs.declared.frames.Stretch.{Stretch}
+use Rattle.places.specs.Frames.{further, moved, first_bytes, by_part, nearest_frame}
+use Rattle.places.specs.declared.stretch.Stretch.{Stretch}
+use Rattle.places.proofs.Stretches.{same_offsets}
 use Rattle.places.proofs.Framing.{in_first, in_second}
 use Rattle.places.proofs.Gaps.{Gap, here, in_parallel_left, in_parallel_right, in_sequential_left, in_pruning_left, in_pruning_right, fill, before, after, bytes_filled, Open, Layer, left_of_parallel, right_of_parallel, left_of_sequential, left_of_pruning, right_of_pruning}
 
 -- the stretch of what stands in a gap
 abbrev pub stretch_of : Gap → Expression → Stretch
-stretch_of C e = record { at = length (before C); end = length (before C) + size e }
+stretch_of C e = record { at = length (before C); end = length (before C) + size e; in_order = le-add_right (length (before C)) (size e) }
 
 -- What the nearest frame is around e in the gap C: none, a sequential or a pruning. The frame stands in a gap D, and between
 -- the frame and e there is an open gap E.
@@ -21,11 +23,11 @@ pub data Nearest (C : Gap) (e : Expression) : Option Stretch → Type 0 where
 
 -- one operator further out the frame is the same
 module _ {make : Expression → Expression} {w m : ℕ} (layer : Layer make w m) where
-  same_stretch : (D : Gap) (F : Expression) (s : Stretch) → s ≡ stretch_of D F → record { at = w + s.at; end = w + s.end } ≡ stretch_of (layer.add D) F
+  same_stretch : (D : Gap) (F : Expression) (s : Stretch) → s ≡ stretch_of D F → further w s ≡ stretch_of (layer.add D) F
   same_stretch D F s is =
       let from : w + s.at ≡ length (before (layer.add D)) = ap (λ s. w + s.at) is ∙ sym (layer.bytes_more D) in
       let to : w + s.end ≡ length (before (layer.add D)) + size F = ap (λ s. w + s.end) is ∙ omega (arith, layer.bytes_more D) in
-      λ i. record { at = from i; end = to i }
+      same_offsets (further w s) (stretch_of (layer.add D) F) from to
 
   deeper : {C : Gap} {e : Expression} {s : Stretch} → Nearest C e (Some s) → Nearest (layer.add C) e (moved w (Some s))
   deeper {C} {e} {s} (sequential_frame D E x g free is same long) =
@@ -42,7 +44,7 @@ module _ {make : Expression → Expression} {w m : ℕ} (layer : Layer make w m)
 
 -- a frame around a gap is the nearest if there is none in the gap
 alone : (F : Expression) → first_bytes (size F) ≡ stretch_of here F
-alone F = let to : size F ≡ 0 + size F = omega arith in λ i. record { at = 0; end = to i }
+alone F = same_offsets (first_bytes (size F)) (stretch_of here F) refl (omega arith)
 
 or_sequential : (x : ℕ) (g : Expression) {C : Gap} {e : Expression} {o : Option Stretch} → Nearest C e o → Nearest (in_sequential_left x C g) e (option_or (moved 2 o) (Some (first_bytes (size (sequential x (fill C e) g)))))
 or_sequential x g {C} {e} (no_frame free) = sequential_frame here C x g free (alone (sequential x (fill C e) g)) (λ e'. refl) (omega arith)

@@ -1,7 +1,11 @@
 -- A scan of a form's bytes meets the pending calls of the expression, each at its place. Assumes nothing.
-use Rattle.std.proofs.Common.{◌≡◌, ℕ, suc, ◌+◌, ◌-◌, ◌<◌, ◌≤◌, Bool, true, false, cond, eqb, ltb, List, [], ◌∷◌, ◌++◌, map, length, drop, is_some, IfSome, Some, None, count_by, Option, sym, refl, ap, ◌∙◌, ap₂, append_assoc, append-nil, arith}
+use Rattle.std.proofs.Common.{◌≡◌, ℕ, zero, suc, ◌+◌, ◌<◌, ◌≤◌, Bool, true, false, cond, eqb, ltb, List, [], ◌∷◌, ◌++◌, map, length, drop, is_some, Some, None, count_by, Option, sym, refl, ap, ◌∙◌, ap₂, append_assoc, append-nil, arith}
 use Rattle.std.proofs.lemmas.List.{length-append, map-append, drop_at}
-use Rattle.std.proofs.lemmas.Bool.{eq-eqb}
+use Rattle.std.specs.List.{find, All}
+use Rattle.std.specs.Option.{option_map}
+use Rattle.std.proofs.lemmas.Bool.{eqb-true}
+use Rattle.std.proofs.lemmas.Bool.Decides.{nat_tests}
+use Rattle.std.proofs.lemmas.List.Elements.{All-nil, All-cons}
 use Rattle.std.proofs.lemmas.List.Sums.{sum_by-cons}
 use Rattle.orc.specs.Expressions.{Expression, stop, site_call, definition_call, parallel, sequential, pruning, pending, bytes, size}
 use Rattle.orc.specs.Calls.{Pending, pending_calls}
@@ -11,10 +15,9 @@ use Rattle.formats.specs.Widths.{width_of}
 use Rattle.forms.specs.Reading.{expression_of}
 use Rattle.forms.specs.Heads.{IsForm}
 use Rattle.formats.proofs.Left.{byte_left, two_left, four_left, length_left, drop_left, first_left}
-use Rattle.places.specs.Scans.{Placed, call_at, placed_calls, placed_from, pendings_from, first_place, ticket_place}
-use Rattle.places.specs.Tickets.{NextPlaced, NextPending}
-use Rattle.places.specs.declared.tickets.Pending as call
-use Rattle.places.proofs.Scanning.{nothing_behind, whole_behind, meets_nothing, meets_other, meets_pending}
+use Rattle.forms.specs.Pendings.{call_at}
+use Rattle.places.specs.Scans.{Placed, behind, met, scanned, placed_calls, placed_from, pendings_from, first_place, ticket_place}
+use Rattle.places.proofs.Scanning.{behind_whole, nothing_behind, whole_behind, meets_nothing, meets_other, meets_pending}
 
 module _ (bs : List ℕ) where
   module _ (at : ℕ) {b : ℕ} {l : List ℕ} (left : drop at bs ≡ b ∷ l) where
@@ -103,15 +106,6 @@ found_or_not j (p ∷ ps) = rw (sum_by-cons (λ (p : Pending). cond (eqb j p.tic
 pub found_if_standing : (j : ℕ) (e : Expression) → is_some (ticket_place j e) ≡ ltb 0 (standing j e)
 found_if_standing j e = found_or_not j (placed_calls 0 e) ∙ ap (λ ps. ltb 0 (count_by (λ p. eqb j p.ticket) ps)) (calls_alone 0 e)
 
--- the same without places
-pub next_pending : (bs : List ℕ) (from : ℕ) (r : Option (ℕ × call.Pending)) → NextPlaced bs from r → NextPending bs from r
-next_pending bs from None none = ap (map (λ p. p.call)) none
-next_pending bs from (Some x) (at, wide, behind, within, next) = ap (map (λ p. p.call)) next
-
-pub next_within : (bs : List ℕ) (from : ℕ) (r : Option (ℕ × call.Pending)) → NextPlaced bs from r → IfSome r (λ x. (from < x.0) × (x.0 ≤ length bs))
-next_within bs from None none = tt
-next_within bs from (Some x) (at, wide, behind, within, next) = (omega arith, within)
-
 -- what the first place in a scan is
 module _ (bs : List ℕ) (j : ℕ) (r : Option ℕ) (first : r ≡ first_place j (placed_from bs 0)) where
   pub place_is : IsForm bs → r ≡ ticket_place j (expression_of bs)
@@ -120,8 +114,34 @@ module _ (bs : List ℕ) (j : ℕ) (r : Option ℕ) (first : r ≡ first_place j
   pub found_is : IsForm bs → is_some r ≡ ltb 0 (standing j (expression_of bs))
   found_is form = ap is_some (place_is form) ∙ found_if_standing j (expression_of bs)
 
--- the pending call that a scan meets next has the ticket
-pub met_with_ticket : (bs : List ℕ) (j from next : ℕ) (p : call.Pending) → NextPlaced bs from (Some (next, p)) → p.ticket ≡ j → Some (next - 12) ≡ first_place j (placed_from bs from)
-met_with_ticket bs j from next p (at, wide, behind, within, is) same =
-    let there : next - 12 ≡ at = omega arith in
-    ap Some there ∙ sym (ap (first_place j) is ∙ (rw (eq-eqb j p.ticket (sym same))))
+-- each call that a scan meets lies within the bytes
+module _ (bs : List ℕ) where
+  abbrev Within : Placed → Type 0
+  Within p = p.place + 12 ≤ length bs
+
+  met_within : (at : ℕ) (rest : ℕ → List Placed) → ((next : ℕ) → All Within (rest next)) → (o : Option ℕ) → behind bs at ≡ o → (is : Bool) → eqb (byte_at bs at) 6 ≡ is → All Within (met o is (record { place = at; call = call_at bs at }) rest)
+  met_within at rest others None b is six = All-nil Within
+  met_within at rest others (Some next) b true six =
+      let whole = behind_whole bs at next b in
+      All-cons Within _ _ (omega (arith, whole.within, whole.there, ap width_of (eqb-true (byte_at bs at) 6 six))) (others next)
+  met_within at rest others (Some next) b false six = others next
+
+  scanned_within : (k at : ℕ) → All Within (scanned k bs at)
+  unfolding scanned
+  scanned_within zero at = All-nil Within
+  scanned_within (suc k) at = met_within at (λ next. scanned k bs next) (λ next. scanned_within k next) (behind bs at) refl (eqb (byte_at bs at) 6) refl
+
+  pub placed_within : (at : ℕ) → All (λ p. p.place + 12 ≤ length bs) (placed_from bs at)
+  placed_within at = scanned_within (length bs) at
+
+either_way : (a b : ℕ) → eqb a b ≡ eqb b a
+either_way a b = grind (arith, nat_tests)
+
+-- the place of the first with a ticket, as a search for it finds it
+pub first_place_found : (j : ℕ) (ps : List Placed) → option_map (λ p. p.place) (find (λ p. eqb p.call.ticket j) ps) ≡ first_place j ps
+first_place_found j [] = refl
+first_place_found j (p ∷ ps) = rw (either_way p.call.ticket j) (by (eqb j p.call.ticket) _ _ (first_place_found j ps))
+  where
+    by : (is : Bool) (o : Option Placed) (r : Option ℕ) → option_map (λ p. p.place) o ≡ r → option_map (λ p. p.place) (cond is (Some p) o) ≡ cond is (Some p.place) r
+    by true o r rest = refl
+    by false o r rest = rest

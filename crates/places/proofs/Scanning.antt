@@ -4,7 +4,8 @@ use Rattle.std.proofs.lemmas.Bool.{eq-eqb, ne_eqb}
 use Rattle.std.proofs.lemmas.Bool.Decides.{nat_tests}
 use Rattle.formats.specs.Operands.{byte_at}
 use Rattle.formats.specs.Widths.{width_of}
-use Rattle.places.specs.Scans.{Placed, behind, call_at, met, scanned, placed_from}
+use Rattle.forms.specs.Pendings.{call_at}
+use Rattle.places.specs.Scans.{Placed, behind, met, scanned, placed_from}
 
 -- a command that is there ends behind its beginning, and within the bytes
 pub record Whole (bs : List ℕ) (at next : ℕ) : Type 0 where

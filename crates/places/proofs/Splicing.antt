@@ -18,7 +18,7 @@ use Rattle.places.specs.Places.{due_place}
 use Rattle.places.specs.Scans.{ticket_place}
 use Rattle.places.specs.Frames.{nearest_frame}
 use Rattle.places.specs.Splices.{spliced, Transition, IsDue, DueThere, Around, Taken, Effect, TakesReplies, PendingThere}
-use Rattle.places.specs.declared.frames.Stretch.{Stretch}
+use Rattle.places.specs.declared.stretch.Stretch.{Stretch}
 use Rattle.places.proofs.Gaps.{Gap, here, in_pruning_right, fill, before, after, bytes_filled, dues, Open, lets_quiet, lets_all, moves, calls_before, calls_after, calls_filled}
 use Rattle.places.proofs.Locating.{due_located, ticket_located}
 use Rattle.places.proofs.Outward.{stretch_of, Nearest, no_frame, sequential_frame, pruning_frame, nearest}

@@ -1,17 +1,22 @@
 -- The frames of an expression: the operators that take a reply. Assumes nothing.
 use Rattle.std.specs.Prelude.{ℕ, ◌+◌, ◌-◌, ◌<◌, ◌≤◌, cond, IfSome, Some, None, Option, nat_lt}
 use Rattle.std.specs.Option.{option_or}
+use Rattle.std.proofs.Common.{le_refl, zero-le}
+use Rattle.std.proofs.Math.Nat.{add-le-add}
 use Rattle.orc.specs.Expressions.{Expression, stop, site_call, definition_call, parallel, sequential, pruning, pending, size}
-use Rattle.places.specs.declared.frames.Stretch.{Stretch}
+use Rattle.places.specs.declared.stretch.Stretch.{Stretch}
 
 -- a stretch, by so many bytes further on
+abbrev pub further : ℕ → Stretch → Stretch
+further n s = record { at = n + s.at; end = n + s.end; in_order = add-le-add (le_refl n) s.in_order }
+
 abbrev pub moved : ℕ → Option Stretch → Option Stretch
 moved n None = None
-moved n (Some s) = Some (record { at = n + s.at; end = n + s.end })
+moved n (Some s) = Some (further n s)
 
 -- the stretch of n bytes from the beginning on
 abbrev pub first_bytes : ℕ → Stretch
-first_bytes n = record { at = 0; end = n }
+first_bytes n = record { at = 0; end = n; in_order = zero-le }
 
 -- a stretch, if there is one, lies within the first n bytes and is not empty
 abbrev pub Within : ℕ → Option Stretch → Type 0

@@ -2,4 +2,5 @@ pub mod Places
 pub mod Scans
 pub mod Tickets
 pub mod Frames
+pub mod Parts
 pub mod Splices

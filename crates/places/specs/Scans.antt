@@ -2,8 +2,9 @@
 use Rattle.std.specs.Prelude.{ℕ, zero, suc, ◌+◌, Bool, true, false, cond, ◌&&◌, List, [], ◌∷◌, ◌++◌, map, length, Some, None, Option, ◌==◌, nat_le, nat_lt}
 use Rattle.orc.specs.Expressions.{Expression, stop, site_call, definition_call, parallel, sequential, pruning, pending, size}
 use Rattle.orc.specs.Calls.{Pending}
-use Rattle.formats.specs.Operands.{byte_at, two_at, four_at}
+use Rattle.formats.specs.Operands.{byte_at}
 use Rattle.formats.specs.Widths.{width_of}
+use Rattle.forms.specs.Pendings.{call_at}
 
 -- a pending call, and the offset of its command
 pub record Placed : Type 0 where
@@ -32,10 +33,6 @@ ticket_place j e = first_place j (placed_calls 0 e)
 -- The offset behind the command at an offset, by the table of widths, if the whole command is there.
 abbrev pub behind : List ℕ → ℕ → Option ℕ
 behind bs at = cond (nat_lt 0 (width_of (byte_at bs at)) && nat_le (at + width_of (byte_at bs at)) (length bs)) (Some (at + width_of (byte_at bs at))) None
-
--- the pending call whose command stands at an offset
-abbrev pub call_at : List ℕ → ℕ → Pending
-call_at bs at = record { ticket = four_at bs (at + 1); site = byte_at bs (at + 5); argument = two_at bs (at + 6); since = four_at bs (at + 8) }
 
 -- one command of a scan: none, a pending call or another, and what follows behind it
 abbrev pub met : Option ℕ → Bool → Placed → (ℕ → List Placed) → List Placed

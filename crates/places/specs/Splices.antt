@@ -13,7 +13,7 @@ use Rattle.forms.specs.Heads.{IsForm}
 use Rattle.places.specs.Places.{due_place}
 use Rattle.places.specs.Scans.{ticket_place}
 use Rattle.places.specs.Frames.{nearest_frame}
-use Rattle.places.specs.declared.frames.Stretch.{Stretch}
+use Rattle.places.specs.declared.stretch.Stretch.{Stretch}
 
 -- the bytes from one offset up to another replaced by new ones
 abbrev pub spliced : List ℕ → ℕ → ℕ → List ℕ → List ℕ

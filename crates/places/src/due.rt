@@ -4,6 +4,7 @@ ghost use Rattle.orc.specs.Calls.{due_count, ready};
 ghost use Rattle.forms.specs.Heads.{expression, parameter_of, IsForm};
 ghost use Rattle.places.specs.Places.{due_place, EndsAt, PassesAll};
 
+use forms::command::Command;
 use forms::form::{Form, Head, Parameter};
 
 // How many calls with this parameter are due: one with a value, none with a variable.
@@ -17,17 +18,18 @@ fn ready_calls(parameter: Parameter) -> usize
 }
 
 // How many calls of a form are due.
+#[tactic(auto, unfolding(orc::specs::Calls::due_count, forms::specs::Reading::expression_of, forms::specs::Reading::read))]
 pub fn due_count(form: Form) -> usize
     ensures count { result ≡ due_count (expression form.entry) }
     ensures few { result ≤ length form.entry.bytes.now }
 {
     match form.head() {
-        Head::Stop | Head::Pending { .. } => 0,
-        Head::SiteCall { parameter, .. } => ready_calls(parameter),
-        Head::DefinitionCall { parameter, .. } => ready_calls(parameter),
-        Head::Parallel(f, g) => due_count(f) + due_count(g),
+        Head::Stop | Head::Pending(_) => 0,
+        Head::SiteCall { parameter, .. } | Head::DefinitionCall { parameter, .. } => {
+            ready_calls(parameter)
+        }
+        Head::Parallel(f, g) | Head::Pruning(_, f, g) => due_count(f) + due_count(g),
         Head::Sequential(_, f, _) => due_count(f),
-        Head::Pruning(_, f, g) => due_count(f) + due_count(g),
     }
 }
 
@@ -44,27 +46,22 @@ fn seek(form: Form, n: usize) -> Result<usize, usize>
     ensures { MatchResult result (EndsAt form.entry.bytes.now n) (PassesAll form.entry.bytes.now n) }
 {
     match form.head() {
-        Head::Stop | Head::Pending { .. } => Err(0),
-        Head::SiteCall { parameter, .. } => seek_here(parameter, n),
-        Head::DefinitionCall { parameter, .. } => seek_here(parameter, n),
-        Head::Parallel(f, g) => match seek(f, n) {
-            Ok(at) => Ok(1 + at),
-            Err(left) => match seek(g, n - left) {
-                Ok(at) => Ok(1 + f.as_bytes().len() + at),
-                Err(right) => Err(left + right),
-            },
-        },
-        Head::Sequential(_, f, _) => match seek(f, n) {
-            Ok(at) => Ok(2 + at),
-            Err(left) => Err(left),
-        },
-        Head::Pruning(_, f, g) => match seek(f, n) {
-            Ok(at) => Ok(2 + at),
-            Err(left) => match seek(g, n - left) {
-                Ok(at) => Ok(2 + f.as_bytes().len() + at),
-                Err(right) => Err(left + right),
-            },
-        },
+        Head::Stop | Head::Pending(_) => Err(0),
+        Head::SiteCall { parameter, .. } | Head::DefinitionCall { parameter, .. } => {
+            seek_here(parameter, n)
+        }
+        Head::Parallel(f, g) | Head::Pruning(_, f, g) => {
+            // The parts fill the form up to its end.
+            let second = form.as_bytes().len() - g.as_bytes().len();
+            let first = second - f.as_bytes().len();
+            match seek(f, n) {
+                Ok(at) => Ok(first + at),
+                Err(left) => seek(g, n - left)
+                    .map(|at| second + at)
+                    .map_err(|right| left + right),
+            }
+        }
+        Head::Sequential(_, f, _) => seek(f, n).map(|at| Command::Sequential.width() + at),
     }
 }
 

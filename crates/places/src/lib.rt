@@ -5,4 +5,5 @@
 pub mod due;
 pub mod frames;
 pub mod splices;
+pub mod stretch;
 pub mod tickets;

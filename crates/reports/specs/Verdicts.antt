@@ -1,7 +1,8 @@
 -- The first line of a report. Assumes nothing.
 use Rattle.std.specs.Prelude.{◌≡◌, ℕ, List, ◌++◌, Ok, Err, codes, Result}
 use Rattle.formats.specs.declared.fault.Fault.{Fault}
-use Rattle.formats.specs.Faults.{told, verdict}
+use Rattle.verdicts.specs.Verdicts.{verdict}
+use Rattle.formats.specs.Faults.{told}
 
 -- `accepted`, or `refused NUMBER at PLACE: Name`, and the end of the line
 abbrev pub first_line : {X : Type 0} → Result X Fault → List ℕ

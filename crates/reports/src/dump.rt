@@ -13,30 +13,25 @@ pub(crate) fn bytes_around(heap: Global, bytes: &[u8], place: usize) -> Result<S
     ensures { IfOk result (λ t. Begins (offset_text bytes.now place) (string_bytes t)) }
 {
     let from = place.saturating_sub(AROUND).min(bytes.len());
-    let cells = cells(heap, bytes, from, place)?;
+    let to = place.saturating_add(AROUND + 1).min(bytes.len());
+    let cells = cells(heap, &bytes[from..to], place - from)?;
     let mut line = format!(in heap; "  offset {from}:")?;
-    line.push_str(cells.as_str())?;
+    writeln!(line, "{cells}")?;
     Ok(line)
 }
 
-// The bytes from an offset on, up to some behind the place, and the end of the line.
-fn cells(heap: Global, bytes: &[u8], from: usize, place: usize) -> Result<String, AllocError> {
+// A cell for each byte, that at the place in brackets, or an end in brackets where the place is past them.
+fn cells(heap: Global, bytes: &[u8], place: usize) -> Result<String, AllocError> {
     let mut text = String::new(heap);
-    let to = bytes.len().min(place.saturating_add(AROUND + 1));
     for (i, byte) in bytes.iter().enumerate() {
-        if i < from || i >= to {
-            continue;
-        }
-        let cell = if i == place {
-            format!(in heap; " [{byte:02x}]")?
+        if i == place {
+            write!(text, " [{byte:02x}]")?;
         } else {
-            format!(in heap; " {byte:02x}")?
-        };
-        text.push_str(cell.as_str())?;
+            write!(text, " {byte:02x}")?;
+        }
     }
     if place >= bytes.len() {
-        text.push_str(" [end]")?;
+        write!(text, " [end]")?;
     }
-    text.push_str("\n")?;
     Ok(text)
 }

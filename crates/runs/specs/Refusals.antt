@@ -1,13 +1,8 @@
 -- What is told of each refusal of a call. Assumes nothing.
-use Rattle.std.specs.Prelude.{ℕ, Bool, true, false, List, ◌++◌, codes, decimal}
+use Rattle.std.specs.Prelude.{Bool, true, false, codes}
+use Rattle.verdicts.specs.Verdicts.{Told}
 use Rattle.runs.specs.declared.refusal.Refusal.{Refusal}
 use Rattle.runs.specs.declared.refusal.Refusal.TheVariants.{NotLoaded, NoneDue, NotStanding, OutsideEveryWindow, DueFirst, Overdue, ClockEnd, Outgrown, RecordFull}
-
--- the number that mechanics know a refusal by, the count, ticket, clock or size that it is about, and its name
-pub record Told : Type 0 where
-  pub number : ℕ
-  pub place : ℕ
-  pub name : List ℕ
 
 abbrev pub told : Refusal → Told
 told NotLoaded = record { number = 21; place = 0; name = codes "Not loaded" }
@@ -19,10 +14,6 @@ told (Overdue ticket) = record { number = 26; place = ticket; name = codes "Over
 told (ClockEnd clock) = record { number = 27; place = clock; name = codes "Clock end" }
 told (Outgrown size) = record { number = 28; place = size; name = codes "Outgrown" }
 told RecordFull = record { number = 29; place = 512; name = codes "Record full" }
-
--- the line that is printed: refused NUMBER at PLACE: Name
-abbrev pub verdict : Told → List ℕ
-verdict t = codes "refused " ++ (decimal t.number ++ (codes " at " ++ (decimal t.place ++ (codes ": " ++ t.name))))
 
 -- A refusal is a limit if it comes only of what a run can hold: its clock, the size of its form, the length of its record.
 -- Every other one says that the call asks for what cannot happen.

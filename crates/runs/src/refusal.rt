@@ -1,8 +1,12 @@
 // The refusals of a call. Each has a number, which mechanics know it by, and a place.
 ghost use Rattle.std.specs.Prelude.{◌≡◌, Some};
-ghost use Rattle.runs.specs.Refusals.{told, verdict, is_limit};
+ghost use Rattle.verdicts.specs.Verdicts.{verdict};
+ghost use Rattle.runs.specs.Refusals.{told, is_limit};
 
+use std::error::Error;
 use std::fmt;
+use verdicts::reason::Reason;
+use verdicts::verdict::Verdict;
 
 #[derive(Clone, Copy, PartialEq, Eq, Debug)]
 pub enum Refusal {
@@ -17,11 +21,10 @@ pub enum Refusal {
     RecordFull,
 }
 
-impl Refusal {
-    // The number that a mechanic looks up.
-    pub fn number(&self) -> u8
-        ensures { result ≡ (told self.now).number }
-    {
+impl Reason for Refusal {
+    ghost told = { told };
+
+    fn number(&self) -> u8 {
         match self {
             Refusal::NotLoaded => 21,
             Refusal::NoneDue(_) => 22,
@@ -36,9 +39,7 @@ impl Refusal {
     }
 
     // The count, ticket, clock or size that it is about.
-    pub fn place(&self) -> usize
-        ensures { result ≡ (told self.now).place }
-    {
+    fn place(&self) -> usize {
         match self {
             Refusal::NotLoaded => 0,
             Refusal::NoneDue(due) | Refusal::DueFirst(due) => *due,
@@ -51,10 +52,7 @@ impl Refusal {
         }
     }
 
-    // Its name in words.
-    pub fn name(&self) -> &'static str
-        ensures { result.now ≡ (told self.now).name }
-    {
+    fn name(&self) -> &'static str {
         match self {
             Refusal::NotLoaded => "Not loaded",
             Refusal::NoneDue(_) => "None due",
@@ -67,31 +65,26 @@ impl Refusal {
             Refusal::RecordFull => "Record full",
         }
     }
+}
 
+impl Refusal {
     // Whether it tells of a limit of the run, and not of a call that cannot be made.
     pub fn is_limit(&self) -> bool
         ensures { result ≡ is_limit self.now }
     {
-        match self {
-            Refusal::ClockEnd(_) | Refusal::Outgrown(_) | Refusal::RecordFull => true,
-            Refusal::NotLoaded
-            | Refusal::NoneDue(_)
-            | Refusal::NotStanding(_)
-            | Refusal::OutsideEveryWindow(_)
-            | Refusal::DueFirst(_)
-            | Refusal::Overdue(_) => false,
-        }
+        matches!(
+            self,
+            Refusal::ClockEnd(_) | Refusal::Outgrown(_) | Refusal::RecordFull
+        )
     }
 }
 
-// `refused NUMBER at PLACE: Name`
 impl fmt::Display for Refusal {
     ghost output = { λ r. Some (verdict (told r)) };
 
     fn fmt<W: fmt::Write>(&self, f: &mut fmt::Formatter<W>) -> fmt::Result {
-        let number = self.number();
-        let place = self.place();
-        let name = self.name();
-        write!(f, "refused {number} at {place}: {name}")
+        Verdict(self).fmt(f)
     }
 }
+
+impl Error for Refusal {}

@@ -66,7 +66,7 @@ const LINES: [&str; 53] = [
 
 // Shows the lines, the calls written as lines, the scales and the pictures.
 fn main(rt: HostRuntime) -> anyhow::Result<()> {
-    for line in LINES.iter() {
+    for line in LINES {
         show_line(&rt, line)?;
     }
     show_written(&rt)?;
@@ -86,16 +86,15 @@ fn show_line(rt: &HostRuntime, line: &str) -> anyhow::Result<()> {
 
 // Calls as lines, read again.
 fn show_written(rt: &HostRuntime) -> anyhow::Result<()> {
-    let calls = [
+    for call in [
         Call::Go(0),
         Call::Go(4294967295),
         Call::Answer(1, 6),
         Call::Answer(4294967295, 65535),
         Call::Wait(7),
         Call::Wait(1000000),
-    ];
-    for call in calls.iter() {
-        let line = write_call(rt.alloc(), *call)?;
+    ] {
+        let line = write_call(rt.alloc(), call)?;
         println!(rt; "{call:?} is written {line}")?;
         show_line(rt, line.as_str())?;
     }
@@ -105,11 +104,9 @@ fn show_written(rt: &HostRuntime) -> anyhow::Result<()> {
 // The scale at the edges.
 fn show_scales(rt: &HostRuntime) -> anyhow::Result<()> {
     for clock in [
-        0u32, 59, 60, 119, 120, 299, 300, 599, 600, 2999999999, 3000000000, 4294967295,
-    ]
-    .iter()
-    {
-        let ticks = scale(*clock);
+        0, 59, 60, 119, 120, 299, 300, 599, 600, 2999999999, 3000000000, 4294967295,
+    ] {
+        let ticks = scale(clock);
         println!(rt; "clock {clock}: one column for {ticks}")?;
     }
     Ok(())
@@ -117,42 +114,43 @@ fn show_scales(rt: &HostRuntime) -> anyhow::Result<()> {
 
 // Pictures of nothing, of calls, of publications and of both.
 fn show_pictures(rt: &HostRuntime) -> anyhow::Result<()> {
-    let none: [Lane; 0] = [];
-    let silence: [Publication; 0] = [];
-    show_picture(rt, &none, &silence, 12)?;
+    show_picture(rt, &[], &[], 12)?;
     let lanes = [
-        lane(1, 4, 1, 0, 35, Ending::Answered(0)),
-        lane(2, 5, 0, 0, 3, Ending::Lapsed),
-        lane(3, 3, 80, 3, 35, Ending::Withdrawn),
-        lane(4, 27, 65535, 35, 41, Ending::Standing),
-        lane(5, 4, 2, 35, 35, Ending::Answered(9)),
+        lane(1, 4, 1, 0, Ending::Answered { value: 0, at: 35 }),
+        lane(2, 5, 0, 0, Ending::Lapsed { at: 3 }),
+        lane(3, 3, 80, 3, Ending::Withdrawn { at: 35 }),
+        lane(4, 27, 65535, 35, Ending::Standing),
+        lane(5, 4, 2, 35, Ending::Answered { value: 9, at: 35 }),
     ];
     let publications = [publication(35, 7), publication(35, 8), publication(40, 2)];
     show_picture(rt, &lanes, &publications, 41)?;
-    show_picture(rt, &lanes, &silence, 118)?;
-    show_picture(rt, &none, &publications, 41)?;
+    show_picture(rt, &lanes, &[], 118)?;
+    show_picture(rt, &[], &publications, 41)?;
     show_long(rt)
 }
 
 // A run over the whole range of the clock, and with more than nine publications in one column.
 fn show_long(rt: &HostRuntime) -> anyhow::Result<()> {
+    let answered = Ending::Answered {
+        value: 65535,
+        at: 3000000000,
+    };
     let lanes = [
-        lane(4294967295, 27, 65535, 0, 4294967294, Ending::Standing),
-        lane(9, 0, 0, 1000000000, 1000000001, Ending::Withdrawn),
-        lane(10, 1, 0, 2000000000, 3000000000, Ending::Answered(65535)),
+        lane(4294967295, 27, 65535, 0, Ending::Standing),
+        lane(9, 0, 0, 1000000000, Ending::Withdrawn { at: 1000000001 }),
+        lane(10, 1, 0, 2000000000, answered),
     ];
     let publications = [publication(5, 1); 12];
     show_picture(rt, &lanes, &publications, 4294967294)
 }
 
 // A call to draw.
-fn lane(ticket: u32, site: u8, value: u16, from: u32, to: u32, end: Ending) -> Lane {
+fn lane(ticket: u32, site: u8, value: u16, from: u32, end: Ending) -> Lane {
     Lane {
         ticket,
         site,
         value,
         from,
-        to,
         end,
     }
 }

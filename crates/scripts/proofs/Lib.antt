@@ -1,3 +1,4 @@
 pub mod Splitting
 pub mod Counting
+pub mod Sayings
 pub mod Readings

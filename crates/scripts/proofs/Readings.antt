@@ -1,9 +1,10 @@
 -- A line says one thing, and what is written of a call says that call. Assumes nothing.
-use Rattle.std.proofs.Common.{◌≡◌, ℕ, ◌^◌, ◌<◌, ◌≤◌, Bool, true, false, cond, eqb, List, [], ◌∷◌, ◌++◌, map, get_or, Some, None, Ok, Err, decimal, Result, sym, refl, ap, ◌∙◌, append-nil, arith, eq-eqb, ne_eqb}
+use Rattle.std.proofs.Common.{◌≡◌, ℕ, ◌^◌, ◌<◌, ◌≤◌, false, cond, eqb, List, [], ◌∷◌, ◌++◌, map, get_or, Some, None, Ok, Err, decimal, Result, sym, refl, ap, ◌∙◌, append-nil, arith, eq-eqb, ne_eqb}
 use Rattle.std.proofs.lemmas.Fmt.{decimal_is_IsNumeral, decimal_nonempty, digits_decimal}
 use Rattle.std.proofs.ByRecursion.{All-from_get_or}
 use Rattle.std.proofs.lemmas.Slice.Eq.{bytes_eq-Decides}
 use Rattle.std.proofs.lemmas.Str.Parse.{numerals_by_value, tells_all_ascii_digits, digit_at}
+use Rattle.std.proofs.lemmas.Bool.{false_from_ne_true}
 use Rattle.std.proofs.lemmas.Bool.Decides.{nat_tests}
 use Rattle.std.specs.Int.{IsInRange}
 use Rattle.std.specs.Char.{is_ascii_whitespace}
@@ -11,24 +12,24 @@ use Rattle.std.specs.List.{AllByRecursion}
 use Rattle.std.specs.Str.{bytes_eq}
 use Rattle.runs.specs.declared.call.Call.{Call}
 use Rattle.runs.specs.declared.call.Call.TheVariants.{Go, Answer, Wait}
+use Rattle.runs.specs.Calls.{line_of}
 use Rattle.scripts.specs.declared.fault.LineFault.{LineFault}
 use Rattle.scripts.specs.declared.fault.LineFault.TheVariants.{UnknownWord}
-use Rattle.scripts.specs.declared.line.Verb.{Verb}
 use Rattle.scripts.specs.Words.{words, opens, Dark}
 use Rattle.scripts.specs.Operands.{operands, followed_by, first_then, number_of}
-use Rattle.scripts.specs.Lines.{Outcome, Says, is_blank, is_comment, is_call, is_faulty, is_unknown, verb_of, spelling, numbers, limits, InRange, line_of}
-use Rattle.scripts.proofs.Counting.{reads}
+use Rattle.scripts.specs.Lines.{Outcome, Verb, go, answer, wait, Says, is_blank, is_comment, is_call, is_faulty, is_unknown, verb_of, spelling, numbers, limits, InRange}
+use Rattle.scripts.specs.Parsing.{reads}
 use Rattle.scripts.proofs.Splitting.{words_of_gap, words_of_front, words_from_front, words_of_nothing}
 
 -- what a line says, computed from its words
 made_call : Verb → List ℕ → Outcome
-made_call Verb.Go [] = Ok None
-made_call Verb.Go (n ∷ ns) = Ok (Some (Go n))
-made_call Verb.Answer [] = Ok None
-made_call Verb.Answer (k ∷ []) = Ok None
-made_call Verb.Answer (k ∷ v ∷ ns) = Ok (Some (Answer k v))
-made_call Verb.Wait [] = Ok None
-made_call Verb.Wait (d ∷ ds) = Ok (Some (Wait d))
+made_call go [] = Ok None
+made_call go (n ∷ ns) = Ok (Some (Go n))
+made_call answer [] = Ok None
+made_call answer (k ∷ []) = Ok None
+made_call answer (k ∷ v ∷ ns) = Ok (Some (Answer k v))
+made_call wait [] = Ok None
+made_call wait (d ∷ ds) = Ok (Some (Wait d))
 
 called : Verb → Result (List ℕ) LineFault → Outcome
 called v (Ok ns) = made_call v ns
@@ -36,9 +37,9 @@ called v (Err f) = Err f
 
 by_verb : List ℕ → List (List ℕ) → Outcome
 by_verb w ws =
-    cond (bytes_eq w (spelling Verb.Go)) (called Verb.Go (operands (limits Verb.Go) ws))
-    (cond (bytes_eq w (spelling Verb.Answer)) (called Verb.Answer (operands (limits Verb.Answer) ws))
-    (cond (bytes_eq w (spelling Verb.Wait)) (called Verb.Wait (operands (limits Verb.Wait) ws)) (Err UnknownWord)))
+    cond (bytes_eq w (spelling go)) (called go (operands (limits go) ws))
+    (cond (bytes_eq w (spelling answer)) (called answer (operands (limits answer) ws))
+    (cond (bytes_eq w (spelling wait)) (called wait (operands (limits wait) ws)) (Err UnknownWord)))
 
 meant : List (List ℕ) → Outcome
 meant [] = Ok None
@@ -46,9 +47,9 @@ meant (w ∷ ws) = cond (eqb (get_or w 0 0) 35) (Ok None) (by_verb w ws)
 
 at_verb : (v : Verb) (ws : List (List ℕ)) → meant (spelling v ∷ ws) ≡ called v (operands (limits v) ws)
 unfolding meant by_verb
-at_verb Verb.Go ws = refl
-at_verb Verb.Answer ws = refl
-at_verb Verb.Wait ws = refl
+at_verb go ws = refl
+at_verb answer ws = refl
+at_verb wait ws = refl
 
 at_call : (c : Call) → called (verb_of c) (Ok (numbers c)) ≡ Ok (Some c)
 unfolding called made_call
@@ -61,19 +62,15 @@ unfolding called
 at_fault v f = refl
 
 not_same : (w : List ℕ) (v : Verb) → (w ≡ spelling v → ⊥) → bytes_eq w (spelling v) ≡ false
-not_same w v differ = is_false (bytes_eq w (spelling v)) (λ h. differ ((bytes_eq-Decides w (spelling v)).0 h))
-  where
-    is_false : (b : Bool) → (b ≡ true → ⊥) → b ≡ false
-    is_false true never = absurd (never refl)
-    is_false false never = refl
+not_same w v differ = false_from_ne_true (bytes_eq w (spelling v)) (λ h. differ ((bytes_eq-Decides w (spelling v)).0 h))
 
 at_other : (w : List ℕ) (ws : List (List ℕ)) → (get_or w 0 0 ≡ 35 → ⊥) → ((v : Verb) → w ≡ spelling v → ⊥) → meant (w ∷ ws) ≡ Err UnknownWord
 unfolding meant by_verb
 at_other w ws no-comment no-verb =
     let a = ne_eqb (get_or w 0 0) 35 no-comment in
-    let b = not_same w Verb.Go (no-verb Verb.Go) in
-    let d = not_same w Verb.Answer (no-verb Verb.Answer) in
-    let e = not_same w Verb.Wait (no-verb Verb.Wait) in
+    let b = not_same w go (no-verb go) in
+    let d = not_same w answer (no-verb answer) in
+    let e = not_same w wait (no-verb wait) in
     rw (a, b, d, e)
 
 at_comment : (w : List ℕ) (ws : List (List ℕ)) → get_or w 0 0 ≡ 35 → meant (w ∷ ws) ≡ Ok None
@@ -109,11 +106,11 @@ words_of_last n small =
     ap (λ (l : List ℕ). words (32 ∷ l)) (sym (append-nil (decimal n))) ∙ (words_of_number n [] small refl ∙ ap (λ (l : List (List ℕ)). decimal n ∷ l) (words_of_nothing [] refl))
 
 words_of_line : (c : Call) → InRange c → words (line_of c) ≡ spelling (verb_of c) ∷ map decimal (numbers c)
-words_of_line (Go n) fits = words_of_front 103 (111 ∷ []) (32 ∷ decimal n) (refl, (refl, tt)) refl ∙ ap (λ (l : List (List ℕ)). spelling Verb.Go ∷ l) (words_of_last n (omega arith))
+words_of_line (Go n) fits = words_of_front 103 (111 ∷ []) (32 ∷ decimal n) (refl, (refl, tt)) refl ∙ ap (λ (l : List (List ℕ)). spelling go ∷ l) (words_of_last n (omega arith))
 words_of_line (Answer k v) fits =
     words_of_front 97 (110 ∷ 115 ∷ 119 ∷ 101 ∷ 114 ∷ []) (32 ∷ (decimal k ++ (32 ∷ decimal v))) (refl, (refl, (refl, (refl, (refl, (refl, tt)))))) refl
-    ∙ ap (λ (l : List (List ℕ)). spelling Verb.Answer ∷ l) (words_of_number k (32 ∷ decimal v) (omega arith) refl ∙ ap (λ (l : List (List ℕ)). decimal k ∷ l) (words_of_last v (omega arith)))
-words_of_line (Wait d) fits = words_of_front 119 (97 ∷ 105 ∷ 116 ∷ []) (32 ∷ decimal d) (refl, (refl, (refl, (refl, tt)))) refl ∙ ap (λ (l : List (List ℕ)). spelling Verb.Wait ∷ l) (words_of_last d (omega arith))
+    ∙ ap (λ (l : List (List ℕ)). spelling answer ∷ l) (words_of_number k (32 ∷ decimal v) (omega arith) refl ∙ ap (λ (l : List (List ℕ)). decimal k ∷ l) (words_of_last v (omega arith)))
+words_of_line (Wait d) fits = words_of_front 119 (97 ∷ 105 ∷ 116 ∷ []) (32 ∷ decimal d) (refl, (refl, (refl, (refl, tt)))) refl ∙ ap (λ (l : List (List ℕ)). spelling wait ∷ l) (words_of_last d (omega arith))
 
 number_back : (most n : ℕ) → n < 2 ^ 64 → n ≤ most → number_of most (decimal n) ≡ Ok n
 number_back most n small within = reads most (decimal n) n (digits_decimal (numerals_by_value _ tells_all_ascii_digits) n small) (decimal_is_IsNumeral n small).1 within

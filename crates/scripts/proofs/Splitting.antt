@@ -1,10 +1,15 @@
 -- How a line splits into its words. Assumes nothing.
-use Rattle.std.proofs.Common.{◌≡◌, ℕ, zero, suc, ◌+◌, ◌<◌, Bool, true, false, not, List, [], ◌∷◌, ◌++◌, length, get_or, take, drop, sym, refl, ap, ◌∙◌, subst, ap₂, add-zero, arith}
-use Rattle.std.proofs.lemmas.List.{get_or-take, get_or-drop, length-take-le, take-append-drop}
+use Rattle.std.proofs.Common.{◌≡◌, ℕ, ◌<◌, ◌≤◌, true, false, not, List, [], ◌∷◌, ◌++◌, length, get_or, Some, None, Bor, sym, refl, ap, ◌∙◌, append-nil, arith, ⊎_elim}
+use Rattle.std.proofs.lemmas.Bool.{cases_lt}
+use Rattle.std.proofs.lemmas.Bool.Decides.{nat_tests}
+use Rattle.std.proofs.lemmas.Str.{NoCharPasses-byte}
 use Rattle.std.proofs.ByRecursion.{All-from_get_or}
 use Rattle.std.specs.Char.{is_ascii_whitespace}
-use Rattle.std.specs.List.{AllByRecursion}
-use Rattle.scripts.specs.Words.{words, opens, onto, Dark}
+use Rattle.std.specs.List.{AllByRecursion, AllPass}
+use Rattle.std.specs.Str.{NoCharPasses}
+use Rattle.std.specs.Str.Iter.{split_ascii_whitespace_text, split_ascii_whitespace_steps, IsAsciiSeparator}
+use Rattle.std.specs.declared.str.SplitAsciiWhitespace.{SplitAscii}
+use Rattle.scripts.specs.Words.{words, words_left, opens, onto, Dark}
 
 -- white space in front of a line does not count
 pub words_of_gap : (gap rest : List ℕ) → AllByRecursion (λ c. is_ascii_whitespace c ≡ true) gap → words (gap ++ rest) ≡ words rest
@@ -31,33 +36,38 @@ pub words_from_front : (w rest : List ℕ) → 0 < length w → AllByRecursion D
 words_from_front [] rest some dark ends = absurd (omega arith)
 words_from_front (c ∷ cs) rest some dark ends = words_of_front c cs rest dark ends
 
--- nor where it was trimmed
-pub words_of_trimmed : (bs t : List ℕ) (n : ℕ) → t ≡ drop n bs → length t + n ≡ length bs → ((i : ℕ) → i < n → is_ascii_whitespace (get_or bs i 0) ≡ true) → words bs ≡ words t
-words_of_trimmed bs t n is long white =
-    let all : AllByRecursion (λ c. is_ascii_whitespace c ≡ true) (take n bs) = All-from_get_or (λ c. is_ascii_whitespace c ≡ true) (take n bs) 0 (λ i h. getD_white i (omega (arith, length-take-le n bs (omega arith)))) in
-    ap words (sym (take-append-drop n bs)) ∙ (words_of_gap (take n bs) (drop n bs) all ∙ ap words (sym is))
-  where
-    getD_white : (i : ℕ) → i < n → is_ascii_whitespace (get_or (take n bs) i 0) ≡ true
-    getD_white i h = ap is_ascii_whitespace (get_or-take n bs i 0 h) ∙ white i h
-
 -- a line of no bytes has no words
 pub words_of_nothing : (bs : List ℕ) → length bs ≡ 0 → words bs ≡ []
 unfolding words
 words_of_nothing [] none = refl
 words_of_nothing (c ∷ cs) none = absurd (omega arith)
 
--- what is left of a trimmed text begins with no white space
-pub starts_dark : (bs t : List ℕ) (n : ℕ) → t ≡ drop n bs → length t + n ≡ length bs → (n < length bs → is_ascii_whitespace (get_or bs n 0) ≡ false) → 0 < length t → is_ascii_whitespace (get_or t 0 0) ≡ false
-starts_dark bs t n is long dark some =
-    ap (λ (l : List ℕ). is_ascii_whitespace (get_or l 0 0)) is ∙ (ap is_ascii_whitespace (get_or-drop n bs 0 0 ∙ ap (λ (k : ℕ). get_or bs k 0) (add-zero n)) ∙ dark (omega arith))
+white : (bs : List ℕ) → AllPass is_ascii_whitespace bs → AllByRecursion (λ c. is_ascii_whitespace c ≡ true) bs
+white bs all = All-from_get_or (λ c. is_ascii_whitespace c ≡ true) bs 0 (λ i within. all i 0 within)
 
--- a text that begins with no white space begins with a word
-pub first_word : (text : List ℕ) (n : ℕ) (w rest : List ℕ) → w ≡ take n text → rest ≡ drop n text → (0 < length text → is_ascii_whitespace (get_or text 0 0) ≡ false) → 0 < length text → AllByRecursion Dark (take n text) → opens (drop n text) ≡ false → (0 < length w) × (words text ≡ w ∷ words rest)
-first_word [] n w rest w-is rest-is starts some dark ends = absurd (omega arith)
-first_word (c ∷ cs) zero w rest w-is rest-is starts some dark ends = absurd (not_both (is_ascii_whitespace c) (starts some) ends)
+dark : (w : List ℕ) → NoCharPasses is_ascii_whitespace w → AllByRecursion Dark w
+dark w none = All-from_get_or Dark w 0 (λ i within. ⊎_elim (λ low. NoCharPasses-byte is_ascii_whitespace w i none within low) (λ high. beyond (get_or w i 0) high) (cases_lt (get_or w i 0) 128))
   where
-    not_both : (b : Bool) → b ≡ false → not b ≡ false → ⊥
-    not_both b p q = grind arith
-first_word (c ∷ cs) (suc n) w rest w-is rest-is starts some dark ends =
-    let long : 0 < length w = subst (λ (l : List ℕ). 0 < length l) (sym w-is) (omega arith) in
-    (long, ap words (sym (take-append-drop (suc n) (c ∷ cs))) ∙ (words_of_front c (take n cs) (drop n cs) dark ends ∙ ap₂ (λ (a b : List ℕ). a ∷ words b) (sym w-is) (sym rest-is)))
+    beyond : (c : ℕ) → 128 ≤ c → Dark c
+    beyond c high = grind (arith, nat_tests)
+
+ends : (sep rest : List ℕ) → IsAsciiSeparator sep rest → opens (sep ++ rest) ≡ false
+ends [] [] s = refl
+ends [] (c ∷ cs) s = absurd (omega (arith, s.2 refl))
+ends (c ∷ cs) rest s = ap not (s.0 0 0 (omega arith))
+
+-- an iterator over the words of a line gives the first of them, and goes on with the others
+pub next_word : (s t : SplitAscii) (x : Bor (List ℕ)) → split_ascii_whitespace_steps s (Some x) t → words_left s ≡ x.now ∷ words_left t
+next_word s t x step =
+    let rest = split_ascii_whitespace_text t in
+    let gap = step.3.0 in
+    let sep = step.3.1 in
+    ap words step.3.2
+    ∙ (words_of_gap gap (x.now ++ (sep ++ rest)) (white gap step.3.3)
+    ∙ (words_from_front x.now (sep ++ rest) step.0 (dark x.now step.1) (ends sep rest step.3.4)
+    ∙ ap (λ (ws : List (List ℕ)). x.now ∷ ws) (words_of_gap sep rest (white sep step.3.4.0))))
+
+pub no_word : (s t : SplitAscii) → split_ascii_whitespace_steps s None t → words_left s ≡ []
+no_word s t step =
+    let bs = split_ascii_whitespace_text s in
+    ap words (sym (append-nil bs)) ∙ (words_of_gap bs [] (white bs step.0) ∙ words_of_nothing [] refl)

@@ -1,4 +1,5 @@
 pub mod Faults
 pub mod Words
 pub mod Operands
+pub mod Parsing
 pub mod Lines

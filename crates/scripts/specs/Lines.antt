@@ -1,22 +1,26 @@
--- What a line of a script says, and the line that is written of a call. Assumes nothing.
-use Rattle.std.specs.Prelude.{◌≡◌, ℕ, ◌≤◌, List, [], ◌∷◌, ◌++◌, Some, None, Ok, Err, codes, decimal, Option, Result, ◌≢◌, slice_index}
+-- What a line of a script says. Assumes nothing.
+use Rattle.std.specs.Prelude.{◌≡◌, ℕ, ◌≤◌, List, [], ◌∷◌, Some, None, Ok, Err, codes, Option, Result, ◌≢◌, slice_index}
 use Rattle.runs.specs.declared.call.Call.{Call}
 use Rattle.runs.specs.declared.call.Call.TheVariants.{Go, Answer, Wait}
-use Rattle.scripts.specs.declared.line.Verb.{Verb}
 use Rattle.scripts.specs.declared.fault.LineFault.{LineFault}
 use Rattle.scripts.specs.declared.fault.LineFault.TheVariants.{UnknownWord}
 use Rattle.scripts.specs.Operands.{operands}
 
--- the word that a call begins with
+-- the words that a line with a call begins with, and that of a call
+pub data Verb : Type 0 where
+  go : Verb
+  answer : Verb
+  wait : Verb
+
 abbrev pub verb_of : Call → Verb
-verb_of (Go n) = Verb.Go
-verb_of (Answer k v) = Verb.Answer
-verb_of (Wait d) = Verb.Wait
+verb_of (Go n) = go
+verb_of (Answer k v) = answer
+verb_of (Wait d) = wait
 
 abbrev pub spelling : Verb → List ℕ
-spelling Verb.Go = codes "go"
-spelling Verb.Answer = codes "answer"
-spelling Verb.Wait = codes "wait"
+spelling go = codes "go"
+spelling answer = codes "answer"
+spelling wait = codes "wait"
 
 -- the numbers of a call, and the largest that can stand after a word
 abbrev pub numbers : Call → List ℕ
@@ -25,21 +29,15 @@ numbers (Answer k v) = k ∷ v ∷ []
 numbers (Wait d) = d ∷ []
 
 abbrev pub limits : Verb → List ℕ
-limits Verb.Go = 4294967295 ∷ []
-limits Verb.Answer = 4294967295 ∷ 65535 ∷ []
-limits Verb.Wait = 4294967295 ∷ []
+limits go = 4294967295 ∷ []
+limits answer = 4294967295 ∷ 65535 ∷ []
+limits wait = 4294967295 ∷ []
 
 -- every number of a call is within its limit, as it is in each call that a program holds
 abbrev pub InRange : Call → Type 0
 InRange (Go n) = n ≤ 4294967295
 InRange (Answer k v) = (k ≤ 4294967295) × (v ≤ 65535)
 InRange (Wait d) = d ≤ 4294967295
-
--- the line that is written of a call
-abbrev pub line_of : Call → List ℕ
-line_of (Go n) = codes "go " ++ decimal n
-line_of (Answer k v) = codes "answer " ++ (decimal k ++ (codes " " ++ decimal v))
-line_of (Wait d) = codes "wait " ++ decimal d
 
 -- a call, nothing, or a fault
 abbrev pub Outcome : Type 0

@@ -1,5 +1,5 @@
 -- The numbers of a line. Assumes nothing.
-use Rattle.std.specs.Prelude.{ℕ, cond, List, [], ◌∷◌, Ok, Err, Result, nat_le}
+use Rattle.std.specs.Prelude.{◌≡◌, ℕ, ◌<◌, true, cond, List, [], ◌∷◌, length, Ok, Err, Result, MatchResult, nat_le}
 use Rattle.std.specs.Str.Parse.{digits_value}
 use Rattle.std.specs.Str.{all_ascii_digits}
 use Rattle.scripts.specs.declared.fault.LineFault.{LineFault}
@@ -9,6 +9,11 @@ use Rattle.scripts.specs.declared.fault.LineFault.TheVariants.{NumberMissing, No
 -- and the number is at most a limit.
 abbrev pub number_of : ℕ → List ℕ → Result ℕ LineFault
 number_of most w = cond (all_ascii_digits w) (cond (nat_le (digits_value 10 w) most) (Ok (digits_value 10 w)) (Err (TooLarge most))) (Err NotANumber)
+
+-- a type of numbers up to a limit is read from a word of digits as the number that the word writes
+abbrev pub Reads : {T E : Type 0} → ℕ → (T → ℕ) → (List ℕ → Result T E → Type 0) → Type 0
+Reads {T} {E} most value gives =
+    (w : List ℕ) (r : Result T E) → gives w r → all_ascii_digits w ≡ true → 0 < length w → MatchResult r (λ n. number_of most w ≡ Ok (value n)) (λ _. number_of most w ≡ Err (TooLarge most))
 
 -- a number and then more, or what is wrong with them
 abbrev pub followed_by : ℕ → Result (List ℕ) LineFault → Result (List ℕ) LineFault

@@ -1,6 +1,8 @@
 -- The words of a line. Assumes nothing.
 use Rattle.std.specs.Prelude.{◌≡◌, ℕ, Bool, false, cond, not, List, [], ◌∷◌}
 use Rattle.std.specs.Char.{is_ascii_whitespace}
+use Rattle.std.specs.Str.Iter.{split_ascii_whitespace_text}
+use Rattle.std.specs.declared.str.SplitAsciiWhitespace.{SplitAscii}
 
 -- a byte that is no white space: no space, tab, carriage return, line feed or form feed
 abbrev pub Dark : ℕ → Type 0
@@ -21,3 +23,7 @@ onto c (w ∷ ws) = (c ∷ w) ∷ ws
 unfoldable pub words : List ℕ → List (List ℕ)
 words [] = []
 words (c ∷ cs) = cond (is_ascii_whitespace c) (words cs) (cond (opens cs) (onto c (words cs)) ((c ∷ []) ∷ words cs))
+
+-- the words that are left of a line
+abbrev pub words_left : SplitAscii → List (List ℕ)
+words_left s = words (split_ascii_whitespace_text s)

@@ -4,4 +4,3 @@
 pub mod fault;
 pub mod line;
 mod number;
-mod word;

@@ -1,78 +1,85 @@
 // The numbers of a line.
-ghost use Rattle.std.specs.Prelude.{◌≡◌, ℕ, ◌≤◌, List, [], ◌∷◌, Ok, Err, MatchResult};
-ghost use Rattle.std.specs.Str.{all_ascii_digits};
-ghost use Rattle.scripts.specs.Words.{words};
-ghost use Rattle.scripts.specs.Operands.{number_of, operands, followed_by};
+ghost use Rattle.std.specs.Prelude.{◌≡◌, ℕ, ◌<◌, List, [], ◌∷◌, length, Ok, Err, MatchResult, refl};
+ghost use Rattle.std.specs.Char.{is_ascii_digit};
+ghost use Rattle.std.specs.List.{list_all};
+ghost use Rattle.scripts.specs.Words.{words_left};
+ghost use Rattle.scripts.specs.Operands.{Reads, number_of, operands, followed_by};
+ghost use Rattle.scripts.specs.Parsing.{parsed};
 
 use crate::fault::LineFault;
-use crate::word::next_word;
+use std::num::ParseIntError;
+use std::str::{FromStr, SplitAsciiWhitespace};
 
-// The number that the rest of a line consists of.
-pub(crate) fn one_number(rest: &[u8]) -> Result<u32, LineFault>
-    ensures { MatchResult result (λ n. operands (4294967295 ∷ []) (words rest.now) ≡ Ok (n ∷ [])) (λ f. operands (4294967295 ∷ []) (words rest.now) ≡ Err f) }
-{
-    let (n, rest) = next_number(rest, u32::MAX)?;
-    no_more(rest)?;
-    Ok(n)
+// A type of the numbers that a line can write.
+pub(crate) trait Operand: FromStr<Err = ParseIntError> + Copy {
+    // The largest of them.
+    const MOST: u32;
+
+    ghost MOST: { ℕ };
+
+    // The number that a value of the type is.
+    ghost value: { Self → ℕ };
+
+    // A word of digits is read as the number that it writes, unless that is too large.
+    ghost reads: { Reads MOST value Self.from_str_gives };
 }
 
-// The ticket and the value that the rest of a line consists of.
-pub(crate) fn ticket_and_value(rest: &[u8]) -> Result<(u32, u16), LineFault>
-    ensures { MatchResult result (λ p. operands (4294967295 ∷ 65535 ∷ []) (words rest.now) ≡ Ok (p.0 ∷ p.1 ∷ [])) (λ f. operands (4294967295 ∷ 65535 ∷ []) (words rest.now) ≡ Err f) }
-{
-    let (ticket, rest) = next_number(rest, u32::MAX)?;
-    let (value, rest) = next_number(rest, 65535)?;
-    no_more(rest)?;
-    Ok((ticket, value as u16))
+impl Operand for u32 {
+    const MOST: u32 = u32::MAX;
+
+    ghost MOST = { 4294967295 };
+
+    ghost value = { λ n. n };
+
+    ghost reads = { λ w r given. parsed 32 4294967295 w r refl given.0 };
 }
 
-// The number that comes first, of at most `most`, and what follows it.
-fn next_number(bytes: &[u8], most: u32) -> Result<(u32, &[u8]), LineFault>
-    ensures { MatchResult result (λ p. (p.0 ≤ most) × ((ms : List ℕ) → operands (most ∷ ms) (words bytes.now) ≡ followed_by p.0 (operands ms (words p.1.now)))) (λ f. (ms : List ℕ) → operands (most ∷ ms) (words bytes.now) ≡ Err f) }
+impl Operand for u16 {
+    const MOST: u32 = u16::MAX as u32;
+
+    ghost MOST = { 65535 };
+
+    ghost value = { λ n. n };
+
+    ghost reads = { λ w r given. parsed 16 65535 w r refl given.0 };
+}
+
+// The number that the next word writes.
+pub(crate) fn next_number<T: Operand>(words: &mut SplitAsciiWhitespace<'_>) -> Result<T, LineFault>
+    ensures { MatchResult result (λ n. (ms : List ℕ) → operands (T.MOST ∷ ms) (words_left words.old) ≡ followed_by (T.value n) (operands ms (words_left words.new))) (λ f. (ms : List ℕ) → operands (T.MOST ∷ ms) (words_left words.old) ≡ Err f) }
 {
-    let Some((word, rest)) = next_word(bytes) else {
+    let Some(word) = words.next() else {
         return Err(LineFault::NumberMissing);
     };
-    let n = number(word, most)?;
-    Ok((n, rest))
+    number(word)
 }
 
-// Nothing but white space follows.
-fn no_more(rest: &[u8]) -> Result<(), LineFault>
-    ensures { MatchResult result (λ _. operands [] (words rest.now) ≡ Ok []) (λ f. operands [] (words rest.now) ≡ Err f) }
+// The number that the only word left writes.
+pub(crate) fn last_number<T: Operand>(mut words: SplitAsciiWhitespace<'_>) -> Result<T, LineFault>
+    ensures { MatchResult result (λ n. operands (T.MOST ∷ []) (words_left words.entry) ≡ Ok (T.value n ∷ [])) (λ f. operands (T.MOST ∷ []) (words_left words.entry) ≡ Err f) }
 {
-    match next_word(rest) {
-        None => Ok(()),
+    let n = next_number(&mut words)?;
+    match words.next() {
+        None => Ok(n),
         Some(_) => Err(LineFault::WordsLeft),
     }
 }
 
-// The number that a word writes, of at most `most`.
-fn number(word: &[u8], most: u32) -> Result<u32, LineFault>
-    ensures { MatchResult result (λ n. (n ≤ most) × (number_of most word.now ≡ Ok n)) (λ f. number_of most word.now ≡ Err f) }
+// The number that a word writes.
+#[tactic(auto, using(crate::proofs::Counting::digits_by_all))]
+fn number<T: Operand>(word: &str) -> Result<T, LineFault>
+    requires { 0 < length word.now }
+    ensures { MatchResult result (λ n. number_of T.MOST word.now ≡ Ok (T.value n)) (λ f. number_of T.MOST word.now ≡ Err f) }
 {
     if !all_digits(word) {
         return Err(LineFault::NotANumber);
     }
-    let mut n: u32 = 0;
-    for digit in word {
-        let next = u64::from(n) * 10 + u64::from(*digit) - 48;
-        if next > u64::from(most) {
-            return Err(LineFault::TooLarge(most));
-        }
-        n = next as u32;
-    }
-    Ok(n)
+    word.parse().map_err(|_| LineFault::TooLarge(T::MOST))
 }
 
 // Whether every byte is a decimal digit.
-fn all_digits(word: &[u8]) -> bool
-    ensures { result ≡ all_ascii_digits word.now }
+fn all_digits(word: &str) -> bool
+    ensures { result ≡ list_all is_ascii_digit word.now }
 {
-    for byte in word {
-        if !byte.is_ascii_digit() {
-            return false;
-        }
-    }
-    true
+    word.bytes().all(|byte| byte.is_ascii_digit())
 }

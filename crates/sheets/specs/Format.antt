@@ -1,5 +1,5 @@
 -- The site sheet: rows and windows, their bytes, and how a sheet is judged. Assumes nothing.
-use Rattle.std.specs.Prelude.{◌≡◌, ℕ, ◌+◌, ◌<◌, ◌≤◌, Bool, true, false, cond, ◌&&◌, ◌||◌, List, [], ◌∷◌, ◌++◌, reverse, length, Some, None, Ok, Err, Result, ◌==◌, ◌≢◌, nat_le}
+use Rattle.std.specs.Prelude.{◌≡◌, ℕ, ◌+◌, ◌<◌, ◌≤◌, Bool, true, false, cond, ◌&&◌, ◌||◌, List, [], ◌∷◌, ◌++◌, reverse, length, Some, None, Ok, Err, Result, MatchResult, ◌==◌, ◌≢◌, nat_le}
 use Rattle.orc.specs.Meaning.{Window, nonempty}
 use Rattle.orc.specs.Expressions.{two_bytes, four_bytes}
 use Rattle.formats.specs.declared.fault.Fault.{Fault}
@@ -110,6 +110,10 @@ pub data Faulty (bs : List ℕ) (at : ℕ) (rs : List SheetRow) : Fault → Type
   window_first : byte_at bs at ≡ 17 → rs ≡ [] → Faulty bs at rs (WindowBeforeRow at)
   window_5 : (r : SheetRow) (rest : List SheetRow) → byte_at bs at ≡ 17 → rs ≡ r ∷ rest → 4 ≤ length r.windows → Faulty bs at rs (TooMany at)
   bad_window : {f : Fault} (r : SheetRow) (rest : List SheetRow) → byte_at bs at ≡ 17 → rs ≡ r ∷ rest → length r.windows < 4 → first_broken (window_rules bs at) ≡ Some f → Faulty bs at rs f
+
+-- what the command at an offset comes to, after the rows read so far: other rows, or its first fault
+abbrev pub CommandOutcome : List ℕ → ℕ → List SheetRow → List SheetRow → Result (Unit {0}) Fault → Type 0
+CommandOutcome bs at rs rs' r = MatchResult r (λ _. Reads bs at rs rs') (λ f. Faulty bs at rs f)
 
 -- what a sheet comes to: its rows, or one fault
 abbrev pub Outcome : Type 0

@@ -1,20 +1,17 @@
 -- Due calls made by themselves, and what they become. Assumes nothing.
-use Rattle.std.proofs.Common.{◌≡◌, ℕ, zero, suc, ◌+◌, ◌≤◌, List, [], ◌∷◌, length, drop, Some, None, sym, refl, ap, ◌∙◌, subst, arith}
+use Rattle.std.proofs.Common.{◌≡◌, ℕ, zero, suc, ◌+◌, ◌<◌, ◌≤◌, List, [], ◌∷◌, length, drop, Some, None, sym, refl, ap, ◌∙◌, subst, arith}
 use Rattle.std.proofs.lemmas.List.{length-drop}
 use Rattle.orc.specs.Meaning.{unknown}
-use Rattle.orc.specs.Expressions.{Parameter, value, Expression, site_call, definition_call, pending, Definition, World, bytes, entry}
+use Rattle.orc.specs.Expressions.{value, Expression, site_call, definition_call, pending, Definition, World, bytes, entry}
 use Rattle.orc.specs.Variables.{substitute}
 use Rattle.orc.specs.Calls.{Pending}
 use Rattle.orc.specs.Steps.{Act, called, inner, Leaf, due, Step, calls, unfolds}
 use Rattle.formats.specs.Operands.{byte_at}
 use Rattle.formats.specs.Widths.{width_of}
 use Rattle.forms.specs.Reading.{opened, opening, continued, Read, read, expression_of}
-use Rattle.forms.specs.Heads.{headed}
-use Rattle.forms.specs.declared.form.Parameter.{Parameter as Operand}
-use Rattle.forms.specs.declared.form.Head.{Head}
-use Rattle.forms.specs.declared.form.Head.TheVariants.{Stop, SiteCall, DefinitionCall, Parallel, Sequential, Pruning, Pending as Waiting}
 use Rattle.forms.proofs.Openings.{Begins, with_none, with_alone, with_two, begins_with, opening_whole}
-use Rattle.places.specs.Splices.{spliced, HasValue, IsDue}
+use Rattle.places.specs.Splices.{spliced, IsDue}
+use Rattle.walks.specs.Capacity.{capacity}
 use Rattle.steps.specs.Made.{Made}
 
 -- A command that begins a due call has 5 bytes.
@@ -43,20 +40,6 @@ due_whole (b ∷ l) is = begun_whole (b ∷ l) (drop (width_of b) (b ∷ l)) (λ
 pub five_there : (bs : List ℕ) (p : ℕ) → IsDue (expression_of (drop p bs)) → p + 5 ≤ length bs
 five_there bs p is = let five = due_whole (drop p bs) is in omega (arith, length-drop p bs)
 
--- a call whose parameter is no value is not due
-pub call_waits : (make : Parameter → Expression) {a : Parameter} {e : Expression} → (HasValue a → ⊥) → (IsDue (make a) → HasValue a) → make a ≡ e → IsDue e → ⊥
-call_waits make none has is there = none (has (subst IsDue (sym is) there))
-
--- a head that is no call
-pub no_call : (h : Head) {e : Expression} → ((s : ℕ) (a : Operand) → h ≡ SiteCall s a → ⊥) → ((i : ℕ) (a : Operand) → h ≡ DefinitionCall i a → ⊥) → headed h ≡ e → IsDue e → ⊥
-no_call Stop site definition is there = subst IsDue (sym is) there
-no_call (SiteCall s a) site definition is there = site s a refl
-no_call (DefinitionCall i a) site definition is there = definition i a refl
-no_call (Parallel f g) site definition is there = subst IsDue (sym is) there
-no_call (Sequential x f g) site definition is there = subst IsDue (sym is) there
-no_call (Pruning x f g) site definition is there = subst IsDue (sym is) there
-no_call (Waiting k s v c) site definition is there = subst IsDue (sym is) there
-
 -- A call with a value, and what it becomes by itself.
 site_step : {W : World} {t k s v : ℕ} {l : Leaf} {a : Act} {gone : List Pending} {e : Expression} → Step W t k (site_call s (value v)) l a gone e → e ≡ pending k s v t
 site_step calls = refl
@@ -77,8 +60,11 @@ module _ (ds : List Definition) (t k : ℕ) (bs : List ℕ) (p : ℕ) where
     pub site_made : {bs' : List ℕ} → bs' ≡ spliced bs p (p + 5) (bytes (pending k s v t)) → Made ds t k bs p (called s v) bs'
     site_made new = record { is_due = subst IsDue is tt; result = pending k s v t; step = λ m. subst (λ e. Step (record { meaning = m; definitions = ds }) t k e (due 0) (called s v) [] (pending k s v t)) is calls; replaced = new }
 
-    pub site_becomes : {a : Act} {bs' : List ℕ} → Made ds t k bs p a bs' → bs' ≡ spliced bs p (p + 5) (bytes (pending k s v t))
+    site_becomes : {a : Act} {bs' : List ℕ} → Made ds t k bs p a bs' → bs' ≡ spliced bs p (p + 5) (bytes (pending k s v t))
     site_becomes {a} m = m.replaced ∙ ap (λ e. spliced bs p (p + 5) (bytes e)) (site_step (subst (λ e. Step (record { meaning = λ _. unknown; definitions = ds }) t k e (due 0) a [] m.result) (sym is) (m.step (λ _. unknown))))
+
+    pub site_unmade : capacity < length (spliced bs p (p + 5) (bytes (pending k s v t))) → (a : Act) (bs' : List ℕ) → Made ds t k bs p a bs' → capacity < length bs'
+    site_unmade long a bs' m = subst (λ l. capacity < length l) (sym (site_becomes m)) long
 
   module _ (i v : ℕ) (is : definition_call i (value v) ≡ there) where
     pub definition_made : (d : Definition) → entry ds i ≡ Some d → {bs' : List ℕ} → bs' ≡ spliced bs p (p + 5) (bytes (substitute v d.formal d.body)) → Made ds t k bs p inner bs'
@@ -94,10 +80,13 @@ module _ (ds : List Definition) (t k : ℕ) (bs : List ℕ) (p : ℕ) where
     definition_unfolded {a} m = definition_step (subst (λ e. Step (record { meaning = λ _. unknown; definitions = ds }) t k e (due 0) a [] m.result) (sym is) (m.step (λ _. unknown)))
 
     pub definition_missing : None ≡ entry ds i → {a : Act} {bs' : List ℕ} → Made ds t k bs p a bs' → ⊥
-    definition_missing none m = let u = definition_unfolded m in let z : ◌≡◌ {A = ℕ} 0 1 = cc in omega arith
+    definition_missing none m = let u = definition_unfolded m in cc
 
-    pub definition_becomes : (d : Definition) → Some d ≡ entry ds i → {a : Act} {bs' : List ℕ} → Made ds t k bs p a bs' → bs' ≡ spliced bs p (p + 5) (bytes (substitute v d.formal d.body))
+    definition_becomes : (d : Definition) → Some d ≡ entry ds i → {a : Act} {bs' : List ℕ} → Made ds t k bs p a bs' → bs' ≡ spliced bs p (p + 5) (bytes (substitute v d.formal d.body))
     definition_becomes d found m =
         let u = definition_unfolded m in
         let same : u.definition ≡ d = cc in
         m.replaced ∙ ap (λ e. spliced bs p (p + 5) (bytes e)) (u.is ∙ ap (λ d. substitute v d.formal d.body) same)
+
+    pub definition_unmade : (d : Definition) → Some d ≡ entry ds i → capacity < length (spliced bs p (p + 5) (bytes (substitute v d.formal d.body))) → (a : Act) (bs' : List ℕ) → Made ds t k bs p a bs' → capacity < length bs'
+    definition_unmade d found long a bs' m = subst (λ l. capacity < length l) (sym (definition_becomes d found m)) long

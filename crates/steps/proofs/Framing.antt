@@ -7,12 +7,11 @@ use Rattle.orc.specs.Expressions.{Expression, stop, site_call, definition_call, 
 use Rattle.forms.specs.Reading.{expression_of}
 use Rattle.forms.specs.Heads.{IsForm}
 use Rattle.forms.proofs.ReadBack.{read_back}
-use Rattle.places.specs.Frames.{moved, first_bytes, by_part, nearest_frame}
-use Rattle.places.specs.declared.frames.Stretch.{Stretch}
+use Rattle.places.specs.Frames.{further, moved, first_bytes, by_part, nearest_frame}
+use Rattle.places.specs.declared.stretch.Stretch.{Stretch}
 
 -- a stretch of the bytes that is a form
 record FormIn (bs : List ℕ) (s : Stretch) : Type 0 where
-  ordered : s.at ≤ s.end
   within : s.end ≤ length bs
   form : IsForm (between s.at s.end bs)
 
@@ -30,15 +29,14 @@ moved_between front part back at end ordered within =
 moved_form : (front part back : List ℕ) (w : ℕ) → length front ≡ w → (o : Option Stretch) → FormIfAny part o → FormIfAny (front ++ (part ++ back)) (moved w o)
 moved_form front part back w long None _ = tt
 moved_form front part back w long (Some s) is =
-    subst (λ n. FormIn (front ++ (part ++ back)) (record { at = n + s.at; end = n + s.end })) long
+    subst (λ n. FormIn (front ++ (part ++ back)) (further n s)) long
     (record {
-      ordered = omega (arith, is.ordered);
       within = simp length-append (omega (arith, is.within));
-      form = subst IsForm (sym (moved_between front part back s.at s.end is.ordered is.within)) is.form;
+      form = subst IsForm (sym (moved_between front part back s.at s.end s.in_order is.within)) is.form;
     })
 
 or_whole : (bs : List ℕ) → IsForm bs → (o : Option Stretch) → FormIfAny bs o → FormIfAny bs (option_or o (Some (first_bytes (length bs))))
-or_whole bs form None _ = record { ordered = omega arith; within = omega arith; form = subst IsForm (sym (take_all (length bs - 0) bs (omega arith))) form }
+or_whole bs form None _ = record { within = omega arith; form = subst IsForm (sym (take_all (length bs - 0) bs (omega arith))) form }
 or_whole bs form (Some s) is = is
 
 either_part : (b c : Bool) (bs : List ℕ) (first second : Option Stretch) → FormIfAny bs first → FormIfAny bs second → FormIfAny bs (cond b None (cond c first second))

@@ -13,7 +13,7 @@ use Rattle.forms.specs.Reading.{expression_of}
 use Rattle.forms.proofs.ReadBack.{bytes_read, read_back}
 use Rattle.places.specs.Frames.{nearest_frame}
 use Rattle.places.specs.Splices.{spliced, Transition, IsDue, Around, Taken, Effect, TakesReplies}
-use Rattle.places.specs.declared.frames.Stretch.{Stretch}
+use Rattle.places.specs.declared.stretch.Stretch.{Stretch}
 use Rattle.places.proofs.Gaps.{Gap, here, in_parallel_left, in_parallel_right, in_sequential_left, in_pruning_left, in_pruning_right, fill, before, after, bytes_filled}
 use Rattle.places.proofs.Locating.{due_located}
 use Rattle.places.proofs.Splicing.{due_calls_move, replies_take_effect}
@@ -137,29 +137,28 @@ module _ (bs : List ℕ) (j p w : ℕ) (few : length bs ≤ 4096) (whole : p + 1
     abbrev holds : HoldsCall bs p s
     holds = record { before = around.before; behind = around.behind; within = around.within }
 
-    ordered : s.at ≤ s.end
-    ordered = omega (arith, around.before, around.behind)
-
     by_frame : (e : Expression) → read_in bs s ≡ e → Taken W t k bs j w p s e → CanBeAnswered bs p w (Some s)
     unfolding bytes
     by_frame (sequential x f g) is takes =
         let copy = bytes (substitute w x g) in
         let left = between_length bs s.at p around.before (omega arith) in
         let right = between_length bs (p + 12) s.end around.behind around.within in
-        let all = between_length bs s.at s.end ordered around.within in
-        let long = spliced_length bs s.at s.end (3 ∷ (between s.at p bs ++ (0 ∷ (between (p + 12) s.end bs ++ copy)))) ordered around.within in
+        let all = between_length bs s.at s.end s.in_order around.within in
+        let long = spliced_length bs s.at s.end (3 ∷ (between s.at p bs ++ (0 ∷ (between (p + 12) s.end bs ++ copy)))) s.in_order around.within in
         let new = length-append (between s.at p bs) (0 ∷ (between (p + 12) s.end bs ++ copy)) in
         let parts = ap length (sym around.form ∙ ap bytes is) in
         (inner, None, spawned bs p w s x g, spawns s holds is, omega (arith, length-append (between (p + 12) s.end bs) copy, length-append (bytes f) (bytes g), substituted_size w x g))
     by_frame (pruning x f g) is takes =
         let there = sym around.form ∙ ap bytes is in
-        let all = between_length bs s.at s.end ordered around.within in
+        let all = between_length bs s.at s.end s.in_order around.within in
         let parts = ap length there in
-        let long = spliced_length bs s.at s.end (bytes (substitute w x f)) ordered around.within in
+        let long = spliced_length bs s.at s.end (bytes (substitute w x f)) s.in_order around.within in
         let both = length-append (bytes f) (bytes g) in
-        let ends : s.end - size g + size g ≡ s.end = omega arith in
-        let right = back_form bs (5 ∷ x ∷ bytes f) (bytes g) s ordered around.within there (s.end - size g) ends (ap bytes (read_back g)) (read_back g) in
-        (inner, Some (record { at = s.end - size g; end = s.end }), spliced bs s.at s.end (bytes (substitute w x f)), binds s _ holds is refl right, omega (arith, substituted_size w x f))
+        let before : s.end - size g ≤ s.end = omega arith in
+        let q : Stretch = record { at = s.end - size g; end = s.end; in_order = before } in
+        let ends : q.at + size g ≡ s.end = omega arith in
+        let right = back_form bs (5 ∷ x ∷ bytes f) (bytes g) s around.within there q refl ends (ap bytes (read_back g)) (read_back g) in
+        (inner, Some q, spliced bs s.at s.end (bytes (substitute w x f)), binds s _ holds is refl right, omega (arith, substituted_size w x f))
     by_frame stop is takes = absurd takes
     by_frame (site_call i a) is takes = absurd takes
     by_frame (definition_call i a) is takes = absurd takes

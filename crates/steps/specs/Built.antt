@@ -1,9 +1,8 @@
 -- What it is to build bytes in a buffer. Assumes nothing.
 use Rattle.std.specs.Prelude.{◌≡◌, ℕ, ◌+◌, ◌<◌, List, ◌++◌, length, Result, MatchResult}
 use Rattle.walks.specs.Capacity.{capacity}
-use Rattle.walks.specs.Contents.{content}
-use Rattle.walks.specs.declared.buffer.Buffer.{Buffer}
-use Rattle.walks.specs.declared.buffer.Full.{Full}
+use Rattle.walks.specs.Contents.{Buffer, content}
+use Rattle.fixed.specs.declared.full.Full.{Full}
 
 -- the buffer holds the bytes, or there is no room for them
 abbrev pub Built : Result Buffer Full → List ℕ → Type 0

@@ -13,7 +13,7 @@ use Rattle.places.specs.Places.{due_place}
 use Rattle.places.specs.Scans.{ticket_place}
 use Rattle.places.specs.Frames.{nearest_frame}
 use Rattle.places.specs.Splices.{Transition}
-use Rattle.places.specs.declared.frames.Stretch.{Stretch}
+use Rattle.places.specs.declared.stretch.Stretch.{Stretch}
 use Rattle.walks.specs.Capacity.{capacity}
 use Rattle.steps.specs.Made.{Made}
 use Rattle.steps.specs.Replied.{read_in, Replied}

@@ -7,7 +7,7 @@ use Rattle.orc.specs.Steps.{Act, inner, out}
 use Rattle.forms.specs.Reading.{expression_of}
 use Rattle.forms.specs.Heads.{IsForm}
 use Rattle.places.specs.Splices.{spliced}
-use Rattle.places.specs.declared.frames.Stretch.{Stretch}
+use Rattle.places.specs.declared.stretch.Stretch.{Stretch}
 
 -- the expression that a stretch of the bytes is read as
 abbrev pub read_in : List ℕ → Stretch → Expression

@@ -2,8 +2,11 @@
 #![tactic(auto)]
 
 pub mod calls;
+mod framed;
+mod instance;
 pub mod laws;
+mod replacement;
 pub mod replies;
 pub mod reply;
-mod splices;
+mod section;
 pub mod step;

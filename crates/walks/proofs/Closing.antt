@@ -1,7 +1,7 @@
 -- What stands last in a buffer, read and cut down.
-use Rattle.std.proofs.Common.{◌≡◌, ℕ, ◌+◌, ◌-◌, ◌<◌, Bool, true, false, cond, eqb, List, ◌++◌, length, get_or, take, drop, sym, refl, ap, ◌∙◌, ap₂, append_assoc, arith}
+use Rattle.std.proofs.Common.{◌≡◌, ℕ, ◌+◌, ◌-◌, Bool, true, false, cond, eqb, List, ◌++◌, length, get_or, take, drop, sym, refl, ap, ◌∙◌, ap₂, append_assoc, arith}
 use Rattle.std.specs.List.{between}
-use Rattle.std.proofs.lemmas.List.{length-append, take_at, drop_at, get_or-take, get_or-append-add}
+use Rattle.std.proofs.lemmas.List.{length-append, take_at, drop_at, get_or-append-add}
 use Rattle.orc.specs.Expressions.{Expression, stop, site_call, definition_call, parallel, sequential, pruning, pending, bytes}
 use Rattle.orc.specs.Variables.{free}
 use Rattle.orc.specs.Simplified.{is_stop, parallel_of, pruning_of}
@@ -17,10 +17,10 @@ first_byte (pruning x f g) = refl
 first_byte (pending k s v c) = refl
 
 -- only stop begins with its command
-pub stop_there : (bs : List ℕ) (len at : ℕ) (o : List ℕ) (e : Expression) → length o ≡ at → at < len → take len bs ≡ o ++ bytes e → eqb (get_or bs at 0) 0 ≡ is_stop e
-stop_there bs len at o e long within is =
+pub stop_there : (l : List ℕ) (at : ℕ) (o : List ℕ) (e : Expression) → length o ≡ at → l ≡ o ++ bytes e → eqb (get_or l at 0) 0 ≡ is_stop e
+stop_there l at o e long is =
     let front : at ≡ length o + 0 = omega arith in
-    ap (λ b. eqb b 0) (sym (get_or-take len bs at 0 within) ∙ ap (λ l. get_or l at 0) is ∙ ap (λ n. get_or (o ++ bytes e) n 0) front ∙ get_or-append-add o (bytes e) 0 0)
+    ap (λ b. eqb b 0) (ap (λ l. get_or l at 0) is ∙ ap (λ n. get_or (o ++ bytes e) n 0) front ∙ get_or-append-add o (bytes e) 0 0)
     ∙ first_byte e
 
 -- behind what stood there before stands a header, a left and a right part

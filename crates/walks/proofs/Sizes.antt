@@ -17,7 +17,7 @@ size_headed (DefinitionCall i p) = refl
 size_headed (Parallel f g) = omega (arith, size_parts (expression f) (expression g))
 size_headed (Sequential x f g) = omega (arith, size_parts (expression f) (expression g))
 size_headed (Pruning x f g) = omega (arith, size_parts (expression f) (expression g))
-size_headed (Pending k s v c) = refl
+size_headed (Pending p) = refl
 
 pub size_by_head : {e : Expression} (h : Head) → headed h ≡ e → size e ≡ head_size h
 size_by_head h is = ap size (sym is) ∙ size_headed h

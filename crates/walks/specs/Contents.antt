@@ -1,11 +1,15 @@
 -- What a buffer holds, and what it is to write into one. Assumes nothing.
-use Rattle.std.specs.Prelude.{◌≡◌, ℕ, ◌+◌, ◌<◌, ◌≤◌, List, ◌++◌, length, take, Result, MatchResult}
+use Rattle.std.specs.Prelude.{◌≡◌, ℕ, ◌+◌, ◌<◌, ◌≤◌, List, ◌++◌, length, Result, MatchResult}
+use Rattle.fixed.specs.declared.list.FixedList.{FixedList}
+use Rattle.fixed.specs.declared.full.Full.{Full}
+use Rattle.fixed.specs.Items.{items_of}
 use Rattle.walks.specs.Capacity.{capacity}
-use Rattle.walks.specs.declared.buffer.Buffer.{Buffer}
-use Rattle.walks.specs.declared.buffer.Full.{Full}
+
+abbrev pub Buffer : Type 0
+Buffer = FixedList ℕ capacity
 
 abbrev pub content : Buffer → List ℕ
-content b = take b.len b.bytes
+content b = items_of b
 
 -- There was room for n more bytes, and w, of at most n bytes, was written behind what the buffer held.
 pub record Written (before after : Buffer) (n : ℕ) (w : List ℕ) : Type 0 where

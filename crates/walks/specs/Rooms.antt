@@ -14,7 +14,7 @@ own_width (DefinitionCall i p) = 5
 own_width (Parallel f g) = 1
 own_width (Sequential x f g) = 2
 own_width (Pruning x f g) = 2
-own_width (Pending k s v c) = 12
+own_width (Pending p) = 12
 
 -- the parts of a head, if it has any
 abbrev pub parts_of : Head → Option (Form × Form)
@@ -24,7 +24,7 @@ parts_of (DefinitionCall i p) = None
 parts_of (Parallel f g) = Some (f, g)
 parts_of (Sequential x f g) = Some (f, g)
 parts_of (Pruning x f g) = Some (f, g)
-parts_of (Pending k s v c) = None
+parts_of (Pending p) = None
 
 abbrev pub parts_size : Option (Form × Form) → ℕ
 parts_size None = 0

@@ -2,12 +2,13 @@
 // and an age is too large.
 ghost use Rattle.std.specs.Prelude.{◌≡◌};
 ghost use Rattle.orc.specs.Meaning.{handle, reaches, admits, within_reach, can_stand, can_reply};
-ghost use Rattle.walks.specs.Ages.{window_of};
+ghost use Rattle.walks.specs.Ages.{window_of, passes_at};
 
+use forms::pending::Pending;
 use hosts::host::Host;
 
 // The latest age of a window that has no end.
-pub(crate) const NO_END: u32 = 4294967295;
+pub(crate) const NO_END: u32 = u32::MAX;
 
 // Whether a window with these ticks reaches a tick, for a call made at the tick `since`. The window's values do not matter.
 fn reaches(ticks: (u32, u32), since: u32, tick: u64) -> bool
@@ -23,48 +24,49 @@ fn admits(ticks: (u32, u32), values: (u16, u16), since: u32, tick: u64, reply: u
 {
     let (earliest, _) = ticks;
     let (lowest, highest) = values;
-    if tick < u64::from(since) + u64::from(earliest) || !reaches(ticks, since, tick) {
-        return false;
-    }
-    lowest <= reply && reply <= highest
+    u64::from(since) + u64::from(earliest) <= tick
+        && reaches(ticks, since, tick)
+        && (lowest..=highest).contains(&reply)
+}
+
+// Whether the window of a number, if there is one, reaches a tick.
+fn window_reaches<H: Host>(host: &H, call: Pending, number: usize, tick: u64) -> bool
+    ensures { result ≡ passes_at (reaches call.clock tick) (handle (H.Host.meaning host.now) call.site call.value).windows number }
+{
+    host.ticks(call.site, call.value, number)
+        .is_some_and(|ticks| reaches(ticks, call.clock, tick))
+}
+
+// Whether the window of a number, if there is one, admits a reply at a tick.
+fn window_admits<H: Host>(host: &H, call: Pending, number: usize, tick: u64, reply: u16) -> bool
+    ensures { result ≡ passes_at (admits call.clock tick reply) (handle (H.Host.meaning host.now) call.site call.value).windows number }
+{
+    host.ticks(call.site, call.value, number)
+        .zip(host.values(call.site, call.value, number))
+        .is_some_and(|(ticks, values)| admits(ticks, values, call.clock, tick, reply))
 }
 
 // Whether some window of a call reaches a tick.
-pub fn within_reach<H: Host>(host: &H, site: u8, value: u16, since: u32, tick: u64) -> bool
-    ensures { result ≡ within_reach (handle (H.Host.meaning host.now) site value) since tick }
+pub fn within_reach<H: Host>(host: &H, call: Pending, tick: u64) -> bool
+    ensures { result ≡ within_reach (handle (H.Host.meaning host.now) call.site call.value) call.clock tick }
 {
-    for number in 0..host.window_count(site, value) {
-        let Some(ticks) = host.ticks(site, value, number) else {
-            continue;
-        };
-        if reaches(ticks, since, tick) {
-            return true;
-        }
-    }
-    false
+    (0..host.window_count(call.site, call.value)).any(|number| window_reaches(
+        host, call, number, tick,
+    ))
 }
 
 // Whether a call can still be unanswered at a tick.
-pub fn can_stand<H: Host>(host: &H, site: u8, value: u16, since: u32, tick: u64) -> bool
-    ensures { result ≡ can_stand (handle (H.Host.meaning host.now) site value) since tick }
+pub fn can_stand<H: Host>(host: &H, call: Pending, tick: u64) -> bool
+    ensures { result ≡ can_stand (handle (H.Host.meaning host.now) call.site call.value) call.clock tick }
 {
-    host.silent(site, value) || within_reach(host, site, value, since, tick)
+    host.silent(call.site, call.value) || within_reach(host, call, tick)
 }
 
 // Whether a call can be answered at a tick with a reply.
-pub fn can_reply<H: Host>(host: &H, site: u8, value: u16, since: u32, tick: u64, reply: u16) -> bool
-    ensures { result ≡ can_reply (handle (H.Host.meaning host.now) site value) since tick reply }
+pub fn can_reply<H: Host>(host: &H, call: Pending, tick: u64, reply: u16) -> bool
+    ensures { result ≡ can_reply (handle (H.Host.meaning host.now) call.site call.value) call.clock tick reply }
 {
-    for number in 0..host.window_count(site, value) {
-        let Some(ticks) = host.ticks(site, value, number) else {
-            continue;
-        };
-        let Some(values) = host.values(site, value, number) else {
-            continue;
-        };
-        if admits(ticks, values, since, tick, reply) {
-            return true;
-        }
-    }
-    false
+    (0..host.window_count(call.site, call.value)).any(|number| window_admits(
+        host, call, number, tick, reply,
+    ))
 }

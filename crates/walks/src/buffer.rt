@@ -1,19 +1,23 @@
 // Fixed memory for a form under construction.
-ghost use Rattle.std.specs.Prelude.{◌≡◌, ◌≤◌, length};
+ghost use Rattle.std.specs.Prelude.{◌≡◌, ◌+◌, ◌≤◌, ◌++◌, length};
 ghost use Rattle.walks.specs.Capacity.{capacity};
+ghost use Rattle.walks.specs.Contents.{content};
+
+use fixed::list::FixedList;
 
 // How many bytes a buffer can hold.
 pub const CAPACITY: usize = 8208;
 
-// Bytes, of which the first `len` are what has been written so far.
-#[derive(Clone, Copy)]
-pub struct Buffer {
-    pub(crate) bytes: [u8; CAPACITY],
-    pub(crate) len: usize,
-    ghost whole: { length bytes ≡ capacity },
-    ghost few: { len ≤ capacity },
-}
+// The bytes that have been written so far.
+pub type Buffer = FixedList<u8, CAPACITY>;
 
-// There is no room for what was to be written.
-#[derive(Clone, Copy, PartialEq, Eq, Debug)]
-pub struct Full;
+// Adds bytes for which there is room.
+pub(crate) fn add(out: &mut Buffer, bytes: &[u8])
+    requires { length (content out.old) + length bytes.now ≤ capacity }
+    ensures content { content out.new ≡ content out.old ++ bytes.now }
+    ensures len { length (content out.new) ≡ length (content out.old) + length bytes.now }
+{
+    let Ok(()) = out.extend_from_slice(bytes) else {
+        unreachable!()
+    };
+}

@@ -7,20 +7,19 @@ ghost use Rattle.walks.specs.Capacity.{capacity};
 ghost use Rattle.walks.specs.Contents.{content, Writes};
 ghost use Rattle.walks.specs.Changes.{changed, changed_parameter, unless_bound};
 
-use crate::buffer::{Buffer, Full};
+use crate::buffer::{Buffer, add};
 use crate::change::Change;
-use crate::heads::*;
+use crate::heads::put_call;
 use crate::rooms::{has_room, head_of};
+use fixed::full::Full;
+use forms::command::Command;
 use forms::form::{Form, Head, Parameter};
 
 // The change in a part in which a variable is bound: none, if it is the variable that the value is for.
 fn unless_bound(change: Option<Change>, bound: u8) -> Option<Change>
     ensures { result ≡ unless_bound change bound }
 {
-    match change {
-        Some(Change { variable, .. }) if variable == bound => None,
-        _ => change,
-    }
+    change.filter(|change| change.variable != bound)
 }
 
 // A parameter once a change is made.
@@ -42,40 +41,35 @@ pub(crate) fn put(out: &mut Buffer, form: Form, change: Option<Change>)
     ensures len { length (content out.new) ≡ length (content out.old) + size (expression form.entry) }
 {
     match head_of(form) {
-        Head::Stop => out.add(&[STOP]),
+        Head::Stop => add(out, &[Command::Stop as u8]),
         Head::SiteCall { site, parameter } => put_call(
             out,
-            SITE_CALL,
+            Command::SiteCall,
             site,
             changed_parameter(change, parameter),
         ),
         Head::DefinitionCall { number, parameter } => put_call(
             out,
-            DEFINITION_CALL,
+            Command::DefinitionCall,
             number,
             changed_parameter(change, parameter),
         ),
         Head::Parallel(f, g) => {
-            out.add(&[PARALLEL]);
+            add(out, &[Command::Parallel as u8]);
             put(out, f, change);
             put(out, g, change);
         }
         Head::Sequential(x, f, g) => {
-            out.add(&[SEQUENTIAL, x]);
+            add(out, &[Command::Sequential as u8, x]);
             put(out, f, change);
             put(out, g, unless_bound(change, x));
         }
         Head::Pruning(x, f, g) => {
-            out.add(&[PRUNING, x]);
+            add(out, &[Command::Pruning as u8, x]);
             put(out, f, unless_bound(change, x));
             put(out, g, change);
         }
-        Head::Pending {
-            ticket,
-            site,
-            value,
-            clock,
-        } => put_pending(out, ticket, site, value, clock),
+        Head::Pending(call) => add(out, &call.to_bytes()),
     }
 }
 

@@ -5,7 +5,7 @@ use crate::ages::NO_END;
 use hosts::host::Host;
 
 #[derive(Clone, Copy)]
-pub(crate) struct Endless;
+pub struct Endless;
 
 impl Host for Endless {
     ghost meaning = { λ _. endless };
@@ -21,11 +21,11 @@ impl Host for Endless {
     }
 
     fn ticks(&self, _site: u8, _value: u16, number: usize) -> Option<(u32, u32)> {
-        if number == 0 { Some((0, NO_END)) } else { None }
+        (number == 0).then_some((0, NO_END))
     }
 
     fn values(&self, _site: u8, _value: u16, number: usize) -> Option<(u16, u16)> {
-        if number == 0 { Some((0, 65535)) } else { None }
+        (number == 0).then_some((0, u16::MAX))
     }
 
     fn silent(&self, _site: u8, _value: u16) -> bool {

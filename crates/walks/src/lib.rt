@@ -4,9 +4,8 @@
 pub mod ages;
 pub mod buffer;
 mod change;
-pub mod contents;
 pub mod copies;
-mod endless;
+pub mod endless;
 mod heads;
 mod rooms;
 pub mod settling;

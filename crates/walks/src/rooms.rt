@@ -17,7 +17,7 @@ fn own_width(head: Head) -> usize
         Head::Stop | Head::Parallel(..) => 1,
         Head::Sequential(..) | Head::Pruning(..) => 2,
         Head::SiteCall { .. } | Head::DefinitionCall { .. } => 5,
-        Head::Pending { .. } => 12,
+        Head::Pending(_) => 12,
     }
 }
 

@@ -1,5 +1,6 @@
 // Forms simplified as they are written, and pending calls ended that no window reaches.
-ghost use Rattle.std.specs.Prelude.{◌≡◌, ℕ, ◌+◌, ◌<◌, ◌≤◌, false, List, ◌++◌, length};
+ghost use Rattle.std.specs.Prelude.{◌≡◌, ℕ, ◌+◌, ◌<◌, ◌≤◌, false, List, ◌++◌, length, take};
+ghost use Rattle.std.specs.List.{between};
 ghost use Rattle.orc.specs.Expressions.{Expression, parallel, pruning, bytes as form_bytes, size};
 ghost use Rattle.orc.specs.Simplified.{is_stop, parallel_of, pruning_of, simplified};
 ghost use Rattle.orc.specs.Calls.{lapsed};
@@ -8,11 +9,12 @@ ghost use Rattle.walks.specs.Capacity.{capacity};
 ghost use Rattle.walks.specs.Contents.{content, Writes};
 
 use crate::ages::within_reach;
-use crate::buffer::{Buffer, Full};
+use crate::buffer::{Buffer, add};
 use crate::copies::put;
 use crate::endless::Endless;
-use crate::heads::*;
 use crate::rooms::{has_room, head_of};
+use fixed::full::Full;
+use forms::command::Command;
 use forms::form::{Form, Head};
 use hosts::host::Host;
 
@@ -21,7 +23,17 @@ fn stops_from(out: &Buffer, at: usize) -> bool
     requires { at < length (content out.now) }
     ensures { (o : List ℕ) (e : Expression) → length o ≡ at → content out.now ≡ o ++ form_bytes e → result ≡ is_stop e }
 {
-    out.bytes[at] == STOP
+    out.as_slice()[at] == Command::Stop as u8
+}
+
+// Of the bytes from `start` on, keeps those from `from` up to `end` only.
+fn keep_part(out: &mut Buffer, start: usize, from: usize, end: usize)
+    requires { (start ≤ from) × (from ≤ end) × (end ≤ length (content out.old)) }
+    ensures content { content out.new ≡ take start (content out.old) ++ between from end (content out.old) }
+    ensures len { length (content out.new) + from ≡ start + end }
+{
+    out.truncate(end);
+    out.remove_range(start, from);
 }
 
 // Simplifies the parallel that stands last in a buffer, from `start` on, with its right part from `middle` on: with a stop on
@@ -32,7 +44,7 @@ fn close_parallel(out: &mut Buffer, start: usize, middle: usize)
     ensures within { (start < length (content out.new)) × (length (content out.new) ≤ length (content out.old)) }
 {
     if stops_from(out, middle) {
-        out.keep(start, start + 1, middle);
+        keep_part(out, start, start + 1, middle);
     }
 }
 
@@ -48,7 +60,7 @@ fn close_pruning(out: &mut Buffer, variable: u8, start: usize, middle: usize)
     }
     let left = Form::new(&out.as_slice()[start + 2..middle]);
     if !left.is_free(variable) {
-        out.keep(start, start + 2, middle);
+        keep_part(out, start, start + 2, middle);
     }
 }
 
@@ -62,7 +74,7 @@ fn settle<H: Host>(out: &mut Buffer, host: &H, form: Form, tick: u64)
     match head_of(form) {
         Head::Stop | Head::SiteCall { .. } | Head::DefinitionCall { .. } => put(out, form, None),
         Head::Parallel(f, g) => {
-            out.add(&[PARALLEL]);
+            add(out, &[Command::Parallel as u8]);
             settle(out, host, f, tick);
             if stops_from(out, start + 1) {
                 out.truncate(start);
@@ -74,32 +86,27 @@ fn settle<H: Host>(out: &mut Buffer, host: &H, form: Form, tick: u64)
             close_parallel(out, start, middle);
         }
         Head::Sequential(x, f, g) => {
-            out.add(&[SEQUENTIAL, x]);
+            add(out, &[Command::Sequential as u8, x]);
             settle(out, host, f, tick);
             if stops_from(out, start + 2) {
                 out.truncate(start);
-                out.add(&[STOP]);
+                add(out, &[Command::Stop as u8]);
                 return;
             }
             settle(out, host, g, tick);
         }
         Head::Pruning(x, f, g) => {
-            out.add(&[PRUNING, x]);
+            add(out, &[Command::Pruning as u8, x]);
             settle(out, host, f, tick);
             let middle = out.len();
             settle(out, host, g, tick);
             close_pruning(out, x, start, middle);
         }
-        Head::Pending {
-            site,
-            value,
-            clock,
-            ..
-        } => {
-            if within_reach(host, site, value, clock, tick) {
+        Head::Pending(call) => {
+            if within_reach(host, call, tick) {
                 put(out, form, None);
             } else {
-                out.add(&[STOP]);
+                add(out, &[Command::Stop as u8]);
             }
         }
     }

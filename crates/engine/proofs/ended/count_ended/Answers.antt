@@ -1,31 +1,47 @@
-use Rattle.std.proofs.Common.{filter, sym, refl, subst}
-use Rattle.places.specs.Tickets.{pending_of}
-use Rattle.places.proofs.Placing.{pendings_are_all}
-use Rattle.engine.specs.Tallies.{Room}
-use Rattle.engine.proofs.Counting.{can_count, counted_first, passed_first, all_counted}
+use Rattle.std.proofs.Common.{map, refl, sym, ap, ◌∙◌, subst}
+use Rattle.orc.specs.Calls.{pending_calls}
+use Rattle.forms.specs.Heads.{expression}
+use Rattle.forms.specs.Pendings.{pending_of}
+use Rattle.places.specs.Tickets.{pendings_left}
+use Rattle.engine.proofs.Counting.{LeftToCount, can_count, counted_first, passed_first, all_counted}
 use Rattle.engine.proofs.ended.count_ended.Goals as goal
 
-pub loop-next-init : goal.loop-next-init
-loop-next-init g c =
-    let test = g.E.Ends.test c.args.which.now in
-    record {
-      room = subst (λ ps. Room c.args.table.now c.args.cause (filter test ps)) (sym (pendings_are_all c.args.form.bytes.now c.requires.form)) c.requires.room;
-      left = λ site. refl;
-    }
+pub loop-placed-init : goal.loop-placed-init
+loop-placed-init g c =
+    let all = c.pending_calls-placed-items.ensures.all c.requires.form in (
+      tt,
+      tt,
+      λ test decides room.
+          subst (λ ps. LeftToCount test c.args.cause (pending_calls (expression c.args.form)) ps c.args.table.now c.args.table.now) (sym (ap pendings_left c.into_iter-placed-iterator.ensures.into_iter_gives ∙ all)) (record { room = room; rest = λ site. refl }),
+    )
 
 pub count-requires : goal.count-requires
 count-requires g c =
-    can_count _ c.args.cause c.args.form.bytes.now c.args.table.now c.loop-next.table c.loop-next.at (pending_of c.in-Some.call) c.in-Some.next c.in-Some.ensures.next c.loop-next.invariant (sym c.if-ends.ensures)
+    let call = c.in-Some.placed.call in
+    let met = ap (map (λ p. p.call)) c.in-Some.ensures.steps in
+    let left = c.loop-placed.invariant.2 c.requires.room.0 c.requires.room.1 c.requires.room.2 in
+    can_count c.requires.room.0 c.args.cause _ _ c.args.table.now c.loop-placed.table left (pending_of call) _ met (sym (c.requires.room.1 call _ c.if-ends.ensures))
 
-pub loop-next-preserved-then-ends : goal.loop-next-preserved-then-ends
-loop-next-preserved-then-ends g c =
-    let p = pending_of c.in-Some.call in
-    counted_first _ c.args.cause c.args.form.bytes.now c.args.table.now c.loop-next.table c.loop-next.at p c.in-Some.next c.in-Some.ensures.next c.count.new.self c.loop-next.invariant (sym c.if-ends.ensures) (c.count.ensures p refl)
+pub loop-placed-preserved-then-ends : goal.loop-placed-preserved-then-ends
+loop-placed-preserved-then-ends g c =
+    let call = c.in-Some.placed.call in
+    let met = ap (map (λ p. p.call)) c.in-Some.ensures.steps in (
+      tt,
+      tt,
+      λ test decides room.
+          counted_first test c.args.cause _ _ c.args.table.now c.loop-placed.table (c.loop-placed.invariant.2 test decides room) (pending_of call) _ met c.count.new.self (sym (decides call _ c.if-ends.ensures)) (c.count.ensures (pending_of call) refl),
+    )
 
-pub loop-next-preserved : goal.loop-next-preserved
-loop-next-preserved g c =
-    passed_first _ c.args.cause c.args.form.bytes.now c.args.table.now c.loop-next.table c.loop-next.at (pending_of c.in-Some.call) c.in-Some.next c.in-Some.ensures.next c.loop-next.invariant (sym c.if-ends.ensures)
+pub loop-placed-preserved : goal.loop-placed-preserved
+loop-placed-preserved g c =
+    let call = c.in-Some.placed.call in
+    let met = ap (map (λ p. p.call)) c.in-Some.ensures.steps in (
+      tt,
+      tt,
+      λ test decides room.
+          passed_first test c.args.cause _ _ c.args.table.now c.loop-placed.table (c.loop-placed.invariant.2 test decides room) (pending_of call) _ met (sym (decides call _ c.if-ends.ensures)),
+    )
 
 pub returns : goal.returns
-returns g c =
-    all_counted _ c.args.cause c.args.form.bytes.now c.args.table.now c.loop-next.table c.loop-next.at c.loop-next.invariant c.in_default.ensures.next _ (pendings_are_all c.args.form.bytes.now c.requires.form)
+returns g c = λ test decides room.
+    all_counted test c.args.cause _ _ c.args.table.now c.loop-placed.table (c.loop-placed.invariant.2 test decides room) (ap (map (λ p. p.call)) c.in-None.ensures.steps.0)

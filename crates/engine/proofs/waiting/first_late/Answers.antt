@@ -1,30 +1,19 @@
-use Rattle.std.proofs.Common.{◌≡◌, false, not, sym, refl, ap, subst}
-use Rattle.std.specs.List.{AllByRecursion}
-use Rattle.places.specs.Scans.{pendings_from}
-use Rattle.places.specs.Tickets.{pending_of}
-use Rattle.places.proofs.Placing.{pendings_are_all}
-use Rattle.runs.specs.Outcomes.{First, late}
-use Rattle.engine.proofs.Late.{at_front, passed_over, found, none_found}
+use Rattle.std.proofs.Common.{◌≡◌, map, sym, ap, ◌∙◌, rules}
+use Rattle.std.specs.List.{find}
+use Rattle.std.specs.Option.{option_map}
+use Rattle.std.proofs.lemmas.Iterator.Consumers.{YieldsList-from_first}
+use Rattle.std.proofs.lemmas.Iterator.Search.{find_from_yields_List}
+use Rattle.places.specs.Scans.{placed_from}
+use Rattle.places.specs.Tickets.{placed_of, placed_left}
+use Rattle.runs.specs.Outcomes.{late}
+use Rattle.engine.proofs.Late.{found_first}
 use Rattle.engine.proofs.waiting.first_late.Goals as goal
-
-pub loop-next-init : goal.loop-next-init
-loop-next-init g c = at_front _ _
-
-pub returns-then-not-can_stand : goal.returns-then-not-can_stand
-returns-then-not-can_stand g c =
-    let test = late (g.H.Host.meaning c.args.host.now) c.args.tick in
-    let bs = c.args.form.bytes.now in
-    let call = pending_of c.in-Some.call in
-    (call, subst (λ l. First test l call) (pendings_are_all bs c.requires) (found test (pendings_from bs 0) (pendings_from bs c.loop-next.at) (pendings_from bs c.in-Some.next) call c.in-Some.ensures.next c.loop-next.invariant (ap not (sym c.if-not-can_stand.ensures))), refl)
-
-pub loop-next-preserved : goal.loop-next-preserved
-loop-next-preserved g c =
-    let test = late (g.H.Host.meaning c.args.host.now) c.args.tick in
-    let bs = c.args.form.bytes.now in
-    passed_over test (pendings_from bs 0) (pendings_from bs c.loop-next.at) (pendings_from bs c.in-Some.next) (pending_of c.in-Some.call) c.in-Some.ensures.next c.loop-next.invariant (ap not (sym c.if-not-can_stand.ensures))
 
 pub returns : goal.returns
 returns g c =
     let test = late (g.H.Host.meaning c.args.host.now) c.args.tick in
-    let bs = c.args.form.bytes.now in
-    subst (AllByRecursion (λ p. test p ≡ false)) (pendings_are_all bs c.requires) (none_found test (pendings_from bs 0) (pendings_from bs c.loop-next.at) c.in_default.ensures.next c.loop-next.invariant)
+    let calls = placed_from c.args.form.bytes.now 0 in
+    let found : option_map placed_of c.find.result ≡ find (λ p. test p.call) calls =
+    find_from_yields_List {s = c.pending_calls.result} (λ p. test p.call) c.find.new.self _ c.find.result c.find.ensures.ran (YieldsList-from_first placed_of placed_left calls c.pending_calls.ensures.placed) (λ x b q k. search rules) in
+    let mapped : c.map.result ≡ option_map (λ p. p.call.ticket) (option_map placed_of c.find.result) = search rules in
+    found_first test calls _ _ (mapped ∙ ap (option_map (λ p. p.call.ticket)) found) (sym (ap (map (λ p. p.call)) c.pending_calls.ensures.placed) ∙ c.pending_calls.ensures.all c.requires)

@@ -4,22 +4,22 @@ use Rattle.files.specs.Judgement.{too_long, bad_count}
 use Rattle.files.proofs.Filewise.{at_goal, of_file, file_judged}
 use Rattle.files.proofs.check.judge_file.Goals as goal
 
-pub returns-then-file-gt4096 : goal.returns-then-file-gt4096
-returns-then-file-gt4096 g c = too_long (omega arith)
+pub returns-then-file-gt-LONGEST : goal.returns-then-file-gt-LONGEST
+returns-then-file-gt-LONGEST g c = too_long (omega arith)
 
-pub returns-in_err-count : goal.returns-in_err-count
-returns-in_err-count g c =
+pub returns-in_err-read_count : goal.returns-in_err-read_count
+returns-in_err-read_count g c =
     let p = err_from_is_err_and c.from_residual.result c.from_residual.ensures.1 in
-    rw (p.1, p.2) (bad_count (omega arith) c.in_err-count.ensures.rules)
+    rw (p.1, p.2) (bad_count (omega arith) c.in_err-read_count.ensures.rules)
 
 pub returns-in_err-at : goal.returns-in_err-at
 returns-in_err-at g c =
     let p = err_from_is_err_and c.from_residual-in_err-at.result c.from_residual-in_err-at.ensures.1 in
-    let count = c.in_ok-count.ensures in
+    let count = c.in_ok-read_count.ensures in
     rw (p.1, p.2) (of_file _ _ count.count.0 (omega arith) count.rules c.in_err-at.ensures)
 
 pub returns : goal.returns
 returns g c =
-    let count = c.in_ok-count.ensures in
-    let r = c.check_whole.result in
-    file_judged _ _ count.count.0 (omega arith) count.rules r (at_goal _ _ _ c.in_ok-at.ensures c.empty.ensures r c.check_whole.ensures)
+    let count = c.in_ok-read_count.ensures in
+    let r = c.whole.result in
+    file_judged _ _ count.count.0 (omega arith) count.rules r (at_goal _ _ _ c.in_ok-at.ensures c.empty.ensures r c.whole.ensures)

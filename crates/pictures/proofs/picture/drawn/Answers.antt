@@ -1,10 +1,9 @@
-use Rattle.std.proofs.Common.{string_bytes}
-use Rattle.pictures.specs.Drawings.{heading}
-use Rattle.pictures.proofs.Openings.{begun}
+use Rattle.std.proofs.Common.{append_assoc, string_bytes}
+use Rattle.std.proofs.lemmas.Result.{IfOk-weaker}
 use Rattle.pictures.proofs.picture.drawn.Goals as goal
 
 pub returns : goal.returns
 returns c =
-    let ticks = c.scale-ticks.result in
-    let begins = begun (heading ticks c.args.clock) (string_bytes c.push_str.new.self) (string_bytes c.in_ok-text.text) c.as_str.result.now c.in_ok-push_str.ensures.bytes c.in_ok-text.ensures.ok in
-    (ticks, c.scale-ticks.ensures, begins)
+    let drawing = c.in_ok-drawing in
+    let lines = c.in_ok-lines.lines in
+    IfOk-weaker c.format.result _ _ (λ t is. (drawing.drawing.spacing.ticks, drawing.ensures, (string_bytes lines, simp append_assoc is))) c.format.ensures.ok

@@ -1,22 +1,26 @@
-use Rattle.std.proofs.Common.{◌≡◌, ◌-◌, length, Some, None, sym, ap, ◌∙◌, arith}
+use Rattle.std.proofs.Common.{◌≡◌, eqb, rules, ap, ◌∙◌}
+use Rattle.std.specs.List.{find}
+use Rattle.std.specs.Option.{option_map}
+use Rattle.std.proofs.lemmas.Iterator.Consumers.{YieldsList-from_first}
+use Rattle.std.proofs.lemmas.Iterator.Search.{find_from_yields_List}
 use Rattle.places.specs.Scans.{placed_from, first_place}
-use Rattle.places.proofs.Placing.{place_is, found_is, met_with_ticket}
+use Rattle.places.specs.Tickets.{placed_of, placed_left}
+use Rattle.places.proofs.Placing.{first_place_found, place_is, found_is}
 use Rattle.places.proofs.tickets.ticket_place.Goals as goal
 
-pub returns-then-pending-ticket : goal.returns-then-pending-ticket
-returns-then-pending-ticket c =
+first : (c : goal.After-map) → c.map.result ≡ first_place c.args.ticket (placed_from c.args.form.bytes.now 0)
+first c =
     let j = c.args.ticket in
-    let bs = c.args.form.bytes.now in
-    let same = c.as_bytes-bytes.ensures in
-    let next = c.in-Some.ensures in
-    let first : Some (c.in-Some.next - 12) ≡ first_place j (placed_from bs 0) =
-    met_with_ticket c.as_bytes-bytes.result.now j c.loop-next.at c.in-Some.next c.in-Some.pending next c.if-pending-ticket.true
-    ∙ sym c.loop-next.invariant ∙ ap (λ bs. first_place j (placed_from bs 0)) same in
-    record { place = place_is bs j _ first; found = found_is bs j _ first; first = first; within = omega (arith, next.1, next.3, ap length same) }
+    let calls = placed_from c.args.form.bytes.now 0 in
+    let found : option_map placed_of c.find.result ≡ find (λ p. eqb p.call.ticket j) calls = find_from_yields_List {s = c.pending_calls.result} (λ p. eqb p.call.ticket j) c.find.new.self _ c.find.result c.find.ensures.ran (YieldsList-from_first placed_of placed_left calls c.pending_calls.ensures.placed) (λ x b q k. search rules) in
+    let mapped : c.map.result ≡ option_map (λ p. p.place) (option_map placed_of c.find.result) = search rules in
+    mapped ∙ ap (option_map (λ p. p.place)) found ∙ first_place_found j calls
 
-pub returns : goal.returns
-returns c =
-    let j = c.args.ticket in
-    let bs = c.args.form.bytes.now in
-    let first : None ≡ first_place j (placed_from bs 0) = sym (c.loop-next.invariant ∙ ap (first_place j) c.in_default.ensures) ∙ ap (λ bs. first_place j (placed_from bs 0)) c.as_bytes-bytes.ensures in
-    record { place = place_is bs j _ first; found = found_is bs j _ first; first = first; within = tt }
+pub returns-clause-first : goal.returns-clause-first
+returns-clause-first c = first c
+
+pub returns-clause-place : goal.returns-clause-place
+returns-clause-place c = place_is c.args.form.bytes.now c.args.ticket _ (first c)
+
+pub returns-clause-found : goal.returns-clause-found
+returns-clause-found c = found_is c.args.form.bytes.now c.args.ticket _ (first c)

@@ -1,13 +1,12 @@
-use Rattle.std.proofs.Common.{Ok, string_bytes, refl, subst}
-use Rattle.sheets.specs.Format.{Outcome}
-use Rattle.reports.specs.Replies.{controller, replies_line}
+use Rattle.std.proofs.Common.{Ok, string_bytes, subst}
+use Rattle.std.proofs.lemmas.Result.{IfOk-weaker}
+use Rattle.orc.specs.Meaning.{Meaning}
+use Rattle.reports.specs.Replies.{replies_line}
 use Rattle.reports.specs.Verdicts.{Begins}
-use Rattle.reports.proofs.Controllers.{same_sheet}
 use Rattle.reports.proofs.replies.replies_report.Goals as goal
 
-pub returns-in_ok-text-in-Ok : goal.returns-in_ok-text-in-Ok
-returns-in_ok-text-in-Ok c =
-    let told = c.in_ok-text-in-Ok.ensures in
-    let rows = c.in-Ok.ensures in
-    let same = same_sheet c.args.sheet.now told.0 (Ok rows.0) told.1 rows.1 in
-    (Ok rows.0, rows.1, refl, subst (λ (o : Outcome). Begins (replies_line (controller o) c.args.site c.args.value) (string_bytes c.in_ok-text-in-Ok.text)) same told.2)
+pub returns-in-Ok : goal.returns-in-Ok
+returns-in-Ok c =
+    let host = c.in-Ok.ensures in
+    let line = λ (m : Meaning). replies_line m c.args.site c.args.value in
+    IfOk-weaker c.report.result _ _ (λ t told. (Ok host.0, host.1, told.0, subst (λ (m : Meaning). Begins (line m) (string_bytes t.text)) host.2 told.1)) c.report.ensures

@@ -7,8 +7,8 @@ use Rattle.scripts.proofs.line.read_call.Goals as goal
 pub returns : goal.returns
 returns c =
     let line = c.args.line.now in
-    let r = c.read_bytes.result in
-    let says : Says (words line) r = subst (λ (bs : List ℕ). Says (words bs) r) c.as_bytes.ensures.value c.read_bytes.ensures in
+    let r = c.read_words.result in
+    let says : Says (words line) r = subst (λ (bs : List ℕ). Says (words bs) r) c.split_ascii_whitespace.ensures.text c.read_words.ensures in
     record {
       says = says;
       only = λ o other. only_one (words line) o r other says;

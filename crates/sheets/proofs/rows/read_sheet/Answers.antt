@@ -16,16 +16,16 @@ not_both bs f rows refused accepted =
     let z : ◌≡◌ {A = ℕ} 0 1 = cc in
     omega arith
 
-pub returns-in_err-draft : goal.returns-in_err-draft
-returns-in_err-draft c =
+pub returns-in_err-list : goal.returns-in_err-list
+returns-in_err-list c =
     let p = err_from_is_err_and c.from_residual.result c.from_residual.ensures.1 in
-    let refused = c.in_err-draft.ensures in
+    let refused = c.in_err-list.ensures in
     rw (p.1, p.2) (record { outcome = refused; encoded = λ rows sound is. not_both c.args.bytes.now _ rows refused (encoded c.args.bytes.now rows (sound, is)) })
 
 pub invariant_of-result : goal.invariant_of-result
-invariant_of-result c = record { sound = (decoded c.args.bytes.now (λ i. (c.type_inv.bytes i).fits) c.in_ok-draft.ensures).0 }
+invariant_of-result c = record { sound = (decoded c.args.bytes.now (λ i. (c.type_inv.bytes i).fits) c.in_ok-list.ensures).0 }
 
 pub returns : goal.returns
 returns c =
-    let accepted = c.in_ok-draft.ensures in
+    let accepted = c.in_ok-list.ensures in
     record { outcome = accepted; encoded = decoded c.args.bytes.now (λ i. (c.type_inv.bytes i).fits) accepted }

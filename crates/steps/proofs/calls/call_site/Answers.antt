@@ -1,40 +1,25 @@
-use Rattle.std.proofs.Common.{◌<◌, length, sym, ap, ◌∙◌, subst, arith}
-use Rattle.orc.specs.Expressions.{site_call}
-use Rattle.places.specs.Splices.{IsDue}
-use Rattle.walks.specs.Capacity.{capacity}
-use Rattle.steps.proofs.Building.{built, unbuilt, spliced_same}
-use Rattle.steps.proofs.Calling.{five_there, call_waits, site_made, site_becomes}
+use Rattle.std.proofs.Common.{arith}
+use Rattle.orc.specs.Expressions.{pending, bytes}
+use Rattle.steps.specs.Built.{Built}
+use Rattle.steps.specs.Sections.{replaced}
+use Rattle.steps.proofs.Building.{built_in_place, unbuilt_in_place}
+use Rattle.steps.proofs.Calling.{five_there, site_made, site_unmade}
 use Rattle.steps.proofs.calls.call_site.Goals as goal
 
-pub returns-in_err-value : goal.returns-in_err-value
-returns-in_err-value c =
-    let waits = call_waits (site_call c.args.site) c.in_err-value.ensures (λ h. h) c.requires.0 in
-    rw c.from_residual.ensures (λ ds a bs' m. absurd (waits m.is_due))
-
-pub call_at-requires : goal.call_at-requires
-call_at-requires c =
-    let is = ap (site_call c.args.site) (sym c.in_ok-value.ensures) ∙ c.requires.0 in
-    let five = five_there c.args.form.bytes.now c.args.place (subst IsDue is tt) in
-    omega arith
-
-pub with_bytes-requires : goal.with_bytes-requires
-with_bytes-requires c =
-    let is = ap (site_call c.args.site) (sym c.in_ok-value.ensures) ∙ c.requires.0 in
-    let five = five_there c.args.form.bytes.now c.args.place (subst IsDue is tt) in
-    (omega arith, omega arith)
+pub returns-in_err-due : goal.returns-in_err-due
+returns-in_err-due c = rw c.from_residual.ensures (λ ds a bs' m. absurd (omega (arith, five_there c.args.form.bytes.now c.args.place m.is_due, c.in_err-due.ensures)))
 
 pub returns-in_err-form : goal.returns-in_err-form
 returns-in_err-form c =
-    let bs = c.args.form.bytes.now in
-    let is = ap (site_call c.args.site) (sym c.in_ok-value.ensures) ∙ c.requires.0 in
-    let long = unbuilt c.with_bytes.result _ c.in_err-form.ensures.value c.with_bytes.ensures in
-    let same = spliced_same bs c.call_at.ensures.0 c.call_at.ensures.1 c.pending_form-new.ensures in
-    rw c.from_residual-in_err-form.ensures (λ ds a bs' m. subst (λ l. capacity < length l) (same ∙ sym (site_becomes ds c.args.clock c.args.ticket bs c.args.place c.args.site c.in_ok-value.value is m)) long)
+    let call = c.args.call in
+    let new = bytes (pending call.ticket call.site call.value call.clock) in
+    let done : Built c.replaced.result (replaced c.in_ok-due.due new) = rw (← c.to_bytes.ensures) c.replaced.ensures in
+    let long = unbuilt_in_place c.in_ok-due.ensures c.replaced.result new done c.in_err-form.ensures.value in
+    rw c.from_residual-in_err-form.ensures (λ ds. site_unmade ds call.clock call.ticket c.args.form.bytes.now c.args.place call.site call.value c.requires long)
 
 pub returns : goal.returns
 returns c ds =
-    let bs = c.args.form.bytes.now in
-    let is = ap (site_call c.args.site) (sym c.in_ok-value.ensures) ∙ c.requires.0 in
-    let new = built c.with_bytes.result _ c.in_ok-form.ensures.value c.with_bytes.ensures in
-    let same = spliced_same bs c.call_at.ensures.0 c.call_at.ensures.1 c.pending_form-new.ensures in
-    site_made ds c.args.clock c.args.ticket bs c.args.place c.args.site c.in_ok-value.value is (new ∙ same)
+    let call = c.args.call in
+    let new = bytes (pending call.ticket call.site call.value call.clock) in
+    let done : Built c.replaced.result (replaced c.in_ok-due.due new) = rw (← c.to_bytes.ensures) c.replaced.ensures in
+    site_made ds call.clock call.ticket c.args.form.bytes.now c.args.place call.site call.value c.requires (built_in_place c.in_ok-due.ensures c.replaced.result new done c.in_ok-form.ensures.value)

@@ -7,4 +7,4 @@ pub returns-in-Some : goal.returns-in-Some
 returns-in-Some c form =
     let bs = c.args.form.bytes.now in
     let is = c.in-Some.ensures.frame form in
-    subst (λ o. ReplyOutcome bs c.args.place c.args.value o c.hand_over.result) is (c.hand_over.ensures (frame_is_form bs c.args.place c.in-Some.frame form is))
+    subst (λ o. ReplyOutcome bs c.args.place c.args.value o c.hand_over.result) is (c.hand_over.ensures (frame_is_form bs c.args.place c.in-Some.stretch form is))

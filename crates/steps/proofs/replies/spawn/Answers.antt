@@ -1,26 +1,21 @@
-use Rattle.std.proofs.Common.{◌<◌, length, Some, None, sym, ◌∙◌, subst, arith}
-use Rattle.orc.specs.Expressions.{bytes}
-use Rattle.orc.specs.Variables.{substitute}
+use Rattle.std.proofs.Common.{Some, None, sym, subst}
 use Rattle.orc.specs.Steps.{inner}
-use Rattle.forms.specs.Heads.{expression}
-use Rattle.walks.specs.Capacity.{capacity}
+use Rattle.steps.specs.Sections.{replaced}
+use Rattle.steps.specs.Framings.{beside}
 use Rattle.steps.specs.Replied.{Replied, spawns}
 use Rattle.steps.proofs.Building.{built, unbuilt}
-use Rattle.steps.proofs.Answering.{unspawned, copied_same}
+use Rattle.steps.proofs.Answering.{holds, unspawned}
 use Rattle.steps.proofs.replies.spawn.Goals as goal
 
 pub returns-in_err-form : goal.returns-in_err-form
 returns-in_err-form c =
-    let bs = c.args.form.bytes.now in
-    let s = c.args.sequential in
-    let long = unbuilt c.with_copy.result _ c.in_err-form.ensures.value c.with_copy.ensures in
-    let same = copied_same bs s (bytes (substitute c.args.value c.args.variable (expression c.args.right))) c.args.call.at c.requires.1 in
-    rw c.from_residual.ensures (λ f there. unspawned bs c.args.call.at c.args.value s there (subst (λ l. capacity < length l) same long))
+    let call = c.args.call in
+    let long = unbuilt c.replaced.result (replaced call.frame (beside (record { call = call; copy = c.args.copy }))) c.in_err-form.ensures.value c.replaced.ensures in
+    rw c.from_residual.ensures (λ f there. unspawned call.frame.form.bytes.now call.place c.args.copy.value call.frame.stretch there long)
 
 pub returns : goal.returns
 returns c f there =
-    let bs = c.args.form.bytes.now in
-    let s = c.args.sequential in
-    let new = built c.with_copy.result _ c.in_ok-form.ensures.value c.with_copy.ensures in
-    let same = copied_same bs s (bytes (substitute c.args.value c.args.variable (expression c.args.right))) c.args.call.at c.requires.1 in
-    subst (Replied bs c.args.call.at c.args.value (Some s) inner None) (sym (new ∙ same)) (spawns s (record { before = c.requires.0; behind = omega arith; within = c.requires.3 }) (sym there))
+    let call = c.args.call in
+    let s = call.frame.stretch in
+    let made = built c.replaced.result (replaced call.frame (beside (record { call = call; copy = c.args.copy }))) c.in_ok-form.ensures.value c.replaced.ensures in
+    subst (Replied call.frame.form.bytes.now call.place c.args.copy.value (Some s) inner None) (sym made) (spawns s (holds call) (sym there))

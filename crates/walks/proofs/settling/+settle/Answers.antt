@@ -27,7 +27,7 @@ returns-then-stops_from g t c =
     let first = c.add.ensures.content in
     let second = c.settle.ensures.content in
     let stops = c.if-stops_from.ensures (o ++ (3 ∷ [])) f (length-append o (3 ∷ []) ∙ omega arith) (left_behind o (3 ∷ []) (bytes f) _ _ first second) in
-    let back = cut_back o (3 ∷ []) (bytes f) _ _ first second (content c.truncate.new.self) _ c.len-start.ensures c.truncate.ensures in
+    let back = cut_back o (3 ∷ []) (bytes f) _ _ first second (content c.truncate.new.self) _ c.len-start.ensures.count c.truncate.ensures in
     record {
       content = c.settle-then-stops_from.ensures.content ∙ ap (λ l. l ++ bytes right) back ∙ ap (λ e. o ++ bytes e) (parallel_left_stop m c.args.tick _ _ c.in-Parallel.ensures.expression stops);
       within = omega (arith, ap length back, c.settle-then-stops_from.ensures.within, c.in-Parallel.ensures.sized);
@@ -61,7 +61,7 @@ returns-then-stops_from-2 g t c =
     let first = c.add-in-Sequential.ensures.content in
     let second = c.settle-in-Sequential.ensures.content in
     let stops = c.if-stops_from-2.ensures (o ++ (4 ∷ x ∷ [])) f (length-append o (4 ∷ x ∷ []) ∙ omega arith) (left_behind o (4 ∷ x ∷ []) (bytes f) _ _ first second) in
-    let back = cut_back o (4 ∷ x ∷ []) (bytes f) _ _ first second (content c.truncate-then-stops_from-2.new.self) _ c.len-start.ensures c.truncate-then-stops_from-2.ensures in
+    let back = cut_back o (4 ∷ x ∷ []) (bytes f) _ _ first second (content c.truncate-then-stops_from-2.new.self) _ c.len-start.ensures.count c.truncate-then-stops_from-2.ensures in
     record {
       content = c.add-then-stops_from-2.ensures.content ∙ ap (λ l. l ++ (0 ∷ [])) back ∙ ap (λ e. o ++ bytes e) (sequential_left_stop m c.args.tick _ _ _ c.in-Sequential.ensures.expression stops);
       within = omega (arith, ap length back, c.add-then-stops_from-2.ensures.len, c.in-Sequential.ensures.sized);

@@ -29,7 +29,7 @@ returns-then-not-is_free c = record {
       let stops = c.if-not-stops_from.ensures (o ++ (5 ∷ x ∷ bytes f)) g (length-append o (5 ∷ x ∷ bytes f) ∙ omega arith) (right_last l o (5 ∷ x ∷ []) (bytes f) (bytes g) is) in
       let left = left_there l o (5 ∷ x ∷ []) (bytes f) (bytes g) is c.args.start (c.args.start + 2) c.args.middle a (omega arith) (omega arith) in
       let unbound = c.if-not-is_free.ensures ∙ ap (λ l. free x (expression_of l)) (c.new-left.ensures ∙ ap (between (c.args.start + 2) c.args.middle) c.as_slice.ensures ∙ left) ∙ ap (free x) (read_back f) in
-      c.keep.ensures.content ∙ left_kept l o (5 ∷ x ∷ []) (bytes f) (bytes g) is c.args.start (c.args.start + 2) c.args.middle a (omega arith) (omega arith) ∙ ap (λ e. o ++ bytes e) (pruning_right_stop x f g stops unbound);
+      c.keep_part.ensures.content ∙ left_kept l o (5 ∷ x ∷ []) (bytes f) (bytes g) is c.args.start (c.args.start + 2) c.args.middle a (omega arith) (omega arith) ∙ ap (λ e. o ++ bytes e) (pruning_right_stop x f g stops unbound);
   within = search rules;
 }
 

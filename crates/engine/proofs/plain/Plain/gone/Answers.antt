@@ -9,43 +9,43 @@ use Rattle.engine.proofs.plain.Plain.gone.Goals as goal
 pub count_called-requires : goal.count_called-requires
 count_called-requires g c =
     let host = c.args.host.now in
-    room_called (g.H.Host.meaning host) (g.H.Host.laws host) c.args.self.now (Go c.requires.0) (act_of c.args.act) [] (content c.args.left.now) (content c.args.form.now) c.requires.1
+    room_called (g.H.Host.meaning host) (g.H.Host.laws host) c.args.self.now (Go c.requires.0) (act_of c.args.step.now.act) [] (content c.args.step.now.form) (content c.args.form.now) c.requires.1
 
 pub overflow_add-self : goal.overflow_add-self
 overflow_add-self g c =
     let host = c.args.host.now in
     let p = c.args.self.now in
-    omega (arith, few_issued (g.H.Host.meaning host) (g.H.Host.laws host) p (Go c.requires.0) (act_of c.args.act) [] (content c.args.left.now) (content c.args.form.now) c.requires.1, c.count_called.ensures.many p.clock (suc p.issued))
+    omega (arith, few_issued (g.H.Host.meaning host) (g.H.Host.laws host) p (Go c.requires.0) (act_of c.args.step.now.act) [] (content c.args.step.now.form) (content c.args.form.now) c.requires.1, c.count_called.ensures.many p.clock (suc p.issued))
 
 pub count_lapsed-requires : goal.count_lapsed-requires
 count_lapsed-requires g c =
     let host = c.args.host.now in
     record {
       form = c.requires.1.move.form;
-      room = room_lapsed (g.H.Host.meaning host) (g.H.Host.laws host) c.args.self.now c.requires.0 (act_of c.args.act) (content c.args.left.now) (content c.args.form.now) c.requires.1 c.count_called.new.table c.count_called.ensures.counted;
+      room = room_lapsed (g.H.Host.meaning host) (g.H.Host.laws host) c.args.self.now c.requires.0 (act_of c.args.step.now.act) (content c.args.step.now.form) (content c.args.form.now) c.requires.1 c.count_called.new.table c.count_called.ensures.counted;
     }
 
-pub push-requires : goal.push-requires
-push-requires g c = c.requires.1.move.room
+pub record-requires : goal.record-requires
+record-requires g c = c.requires.1.move.room
 
 pub invariant_of-self : goal.invariant_of-self
 invariant_of-self g c =
     let host = c.args.host.now in
     let m = g.H.Host.meaning host in
     let p = c.args.self.now in
-    let bs = content c.args.left.now in
+    let bs = content c.args.step.now.form in
     let bs' = content c.args.form.now in
     let it =
-    given p.loaded p.file p.clock c.args.form.now (p.issued + c.count_called.result) c.push.new.self c.count_lapsed.new.table
-    (gone_state m (g.H.Host.laws host) p c.requires.0 (act_of c.args.act) bs bs' c.requires.1 c.count_called.new.table c.count_called.ensures.counted
-    c.args.form.now c.count_called.result c.push.new.self c.count_lapsed.new.table c.count_lapsed.ensures (c.count_called.ensures.many p.clock (suc p.issued)) c.push.ensures refl)
-    (kept_after m (g.H.Host.laws host) p (Go c.requires.0) (act_of c.args.act) [] bs bs' c.requires.1)
-    p.whole_file (moved_form m (g.H.Host.laws host) p (Go c.requires.0) (act_of c.args.act) [] bs bs' c.requires.1 c.args.form.now refl) in
+    given p.file p.clock c.args.form.now (p.issued + c.count_called.result) c.«record».new.events c.count_lapsed.new.table
+    (gone_state m (g.H.Host.laws host) p c.requires.0 (act_of c.args.step.now.act) bs bs' c.requires.1 c.count_called.new.table c.count_called.ensures.counted
+    c.args.form.now c.count_called.result c.«record».new.events c.count_lapsed.new.table c.count_lapsed.ensures (c.count_called.ensures.many p.clock (suc p.issued)) c.«record».ensures refl)
+    (kept_after m (g.H.Host.laws host) p (Go c.requires.0) (act_of c.args.step.now.act) [] bs bs' c.requires.1)
+    p.whole_file (moved_form m (g.H.Host.laws host) p (Go c.requires.0) (act_of c.args.step.now.act) [] bs bs' c.requires.1 c.args.form.now refl) in
     record { whole_file = it.0; whole_form = it.1; formals = it.2; bodies = it.3; fits = it.4 }
 
 pub returns : goal.returns
 returns g c =
     let host = c.args.host.now in
     let p = c.args.self.now in
-    gone_state (g.H.Host.meaning host) (g.H.Host.laws host) p c.requires.0 (act_of c.args.act) (content c.args.left.now) (content c.args.form.now) c.requires.1 c.count_called.new.table c.count_called.ensures.counted
-    c.args.form.now c.count_called.result c.push.new.self c.count_lapsed.new.table c.count_lapsed.ensures (c.count_called.ensures.many p.clock (suc p.issued)) c.push.ensures refl
+    gone_state (g.H.Host.meaning host) (g.H.Host.laws host) p c.requires.0 (act_of c.args.step.now.act) (content c.args.step.now.form) (content c.args.form.now) c.requires.1 c.count_called.new.table c.count_called.ensures.counted
+    c.args.form.now c.count_called.result c.«record».new.events c.count_lapsed.new.table c.count_lapsed.ensures (c.count_called.ensures.many p.clock (suc p.issued)) c.«record».ensures refl

@@ -20,7 +20,7 @@ invariant_of-self g c =
     let p = c.args.self.now in
     let bs' = content c.args.form.now in
     let it =
-    given p.loaded p.file (p.clock + c.args.ticks) c.args.form.now p.issued p.events c.count_lapsed.new.table
+    given p.file (p.clock + c.args.ticks) c.args.form.now p.issued p.events c.count_lapsed.new.table
     (waited_state m laws p c.args.ticks bs' c.requires c.args.form.now c.count_lapsed.new.table c.count_lapsed.ensures refl)
     (kept_waited m laws p c.args.ticks bs' c.requires)
     p.whole_file (waited_form m laws p c.args.ticks bs' c.requires c.args.form.now refl) in

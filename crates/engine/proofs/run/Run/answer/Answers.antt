@@ -1,8 +1,8 @@
-use Rattle.std.proofs.Common.{Ok, sym, refl, subst}
+use Rattle.std.proofs.Common.{is_some, Ok, sym, refl, ap, subst}
 use Rattle.std.proofs.lemmas.Result.{err_from_is_err_and}
 use Rattle.walks.specs.Contents.{content}
 use Rattle.runs.specs.declared.call.Call.TheVariants.{Answer}
-use Rattle.runs.specs.Outcomes.{Outcome, refuses, is_not_loaded, is_not_standing}
+use Rattle.runs.specs.Outcomes.{Outcome, Refuses, refuses, is_not_loaded, is_not_standing}
 use Rattle.events.specs.Acts.{act_of}
 use Rattle.steps.specs.Laws.{withdrawn_with}
 use Rattle.engine.specs.Stands.{state_of}
@@ -10,18 +10,22 @@ use Rattle.engine.proofs.Moved.{outcome}
 use Rattle.engine.proofs.Answering.{refused_outcome, refused_keeps, every_transition, outgrown, may_be_made}
 use Rattle.engine.proofs.run.Run.answer.Goals as goal
 
-pub returns-then-not-self : goal.returns-then-not-self
-returns-then-not-self g c =
+pub returns-in_err-loaded_file : goal.returns-in_err-loaded_file
+returns-in_err-loaded_file g c =
     let m = g.H.Host.meaning c.args.self.now.host in
     let p = c.args.self.now.plain in
-    let o = refuses (is_not_loaded c.if-not-self.true) in
-    record { outcome = o; made = every_transition m p (Answer c.args.ticket c.args.value) _ _ o; refused = refl; host = refl }
+    let call = Answer c.args.ticket c.args.value in
+    let r = c.from_residual.result in
+    let e = err_from_is_err_and r c.from_residual.ensures.1 in
+    let none = c.in_err-loaded_file.ensures in
+    let o = refused_outcome m p call r e.0 _ e.1 e.2 (subst (Refuses m (state_of p) call) (sym none.0) (is_not_loaded (ap is_some none.1))) in
+    record { outcome = o; made = every_transition m p call r _ o; refused = refused_keeps m p call r e.0 _ e.1 e.2; host = refl }
 
 pub returns-in_default : goal.returns-in_default
 returns-in_default g c =
     let m = g.H.Host.meaning c.args.self.now.host in
     let p = c.args.self.now.plain in
-    let o = refuses (is_not_standing c.if-not-self.false c.in_default.ensures) in
+    let o = refuses (is_not_standing (ap is_some c.in_ok-loaded_file.ensures) c.in_default.ensures) in
     record { outcome = o; made = every_transition m p (Answer c.args.ticket c.args.value) _ _ o; refused = refl; host = refl }
 
 pub returns-in_err-reply : goal.returns-in_err-reply
@@ -29,8 +33,8 @@ returns-in_err-reply g c =
     let m = g.H.Host.meaning c.args.self.now.host in
     let p = c.args.self.now.plain in
     let call = Answer c.args.ticket c.args.value in
-    let r = c.from_residual.result in
-    let e = err_from_is_err_and r c.from_residual.ensures.1 in
+    let r = c.from_residual-in_err-reply.result in
+    let e = err_from_is_err_and r c.from_residual-in_err-reply.ensures.1 in
     let o = refused_outcome m p call r e.0 _ e.1 e.2 c.in_err-reply.ensures in
     record { outcome = o; made = every_transition m p call r _ o; refused = refused_keeps m p call r e.0 _ e.1 e.2; host = refl }
 

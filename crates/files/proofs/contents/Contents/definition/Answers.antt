@@ -1,11 +1,10 @@
 use Rattle.std.proofs.Common.{◌≡◌, ℕ, ◌<◌, List, drop, Some, sym, ap, ◌∙◌, subst, arith}
-use Rattle.std.proofs.lemmas.List.{get_or-drop}
 use Rattle.orc.specs.Expressions.{Expression, Definition}
 use Rattle.formats.specs.Operands.{byte_at}
 use Rattle.forms.specs.Reading.{expression_of}
 use Rattle.forms.specs.Heads.{IsForm}
 use Rattle.files.specs.Contents.{body_bytes, behind_definitions, file_of}
-use Rattle.files.proofs.Offsets.{count_of, entry_past, entry_within, body_at}
+use Rattle.files.proofs.Numbers.{count_of, entry_past, entry_within}
 use Rattle.files.proofs.Recovered.{body_whole}
 use Rattle.files.proofs.contents.Contents.definition.Goals as goal
 
@@ -21,15 +20,11 @@ unfolding file_of
 returns c =
     let bs = c.args.self.bytes.now in
     let i = c.args.number in
-    let at = c.offset_behind-at.result in
     let count = c.definition_count.ensures ∙ count_of (byte_at bs 0) (drop 1 bs) in
     let within : i < byte_at bs 0 = omega arith in
-    let range = c.body_range-start.ensures in
-    let behind = c.offset_behind-at.ensures.behind in
-    let there : c.new.result.bytes.now ≡ body_bytes (behind_definitions i (drop 1 bs))
-    = c.new.ensures ∙ body_at bs at c.body_range-start.result.0 c.body_range-start.result.1 range.start range.end ∙ ap body_bytes behind in
-    let formal : c.byte_or_zero.result ≡ byte_at (behind_definitions i (drop 1 bs)) 0
-    = c.byte_or_zero.ensures ∙ sym (get_or-drop at bs 0 0 ∙ ap (byte_at bs) (omega arith)) ∙ ap (λ l. byte_at l 0) behind in
+    let behind = c.behind_definitions-definition.ensures in
+    let there : c.new.result.bytes.now ≡ body_bytes (behind_definitions i (drop 1 bs)) = c.new.ensures ∙ c.split_definition.ensures.body ∙ ap body_bytes behind in
+    let formal : c.byte_or_zero.result ≡ byte_at (behind_definitions i (drop 1 bs)) 0 = c.byte_or_zero.ensures ∙ ap (λ l. byte_at l 0) behind in
     let body : expression_of c.new.result.bytes.now ≡ expression_of (body_bytes (behind_definitions i (drop 1 bs))) = ap expression_of there in
     let made : ℕ → Expression → Definition = λ f e. record { formal = f; body = e } in
     record {

@@ -1,7 +1,7 @@
 use Rattle.std.proofs.Common.{drop, sym, ◌∙◌}
 use Rattle.formats.specs.Operands.{byte_at}
 use Rattle.files.specs.Contents.{file_of}
-use Rattle.files.proofs.Offsets.{count_of}
+use Rattle.files.proofs.Numbers.{count_of}
 use Rattle.files.proofs.contents.Contents.definition_count.Goals as goal
 
 pub returns : goal.returns

@@ -1,0 +1,7 @@
+use Rattle.forms.specs.Reading.{expression_of}
+use Rattle.walks.specs.Contents.{content}
+use Rattle.walks.proofs.Unlapsed.{nothing_lapses}
+use Rattle.engine.proofs.settling.simplify.Goals as goal
+
+pub returns : goal.returns
+returns c = rw (nothing_lapses 0 (expression_of (content c.args.left.now))) at c.settle.ensures

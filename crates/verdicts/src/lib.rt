@@ -1,0 +1,5 @@
+// What is told of a refusal, whatever was refused.
+#![tactic(auto)]
+
+pub mod reason;
+pub mod verdict;
