@@ -38,7 +38,8 @@ const HELP: &str = "door judges the files of a lift's door controller.
 The exit status is 0 if the file is accepted, else 1.
 ";
 
-// How much of an input is read: past the longest that is accepted, of 4096 bytes, to the last byte that a report shows.
+// How many bytes of an input are read. The longest that can be accepted has 4096, and the report on a longer one shows the
+// byte at 4096 and the 8 behind it. This is that and 503 to spare: 9 times 512.
 const MOST_READ: u64 = 4608;
 
 // What the words ask for. Files are named by their paths.
@@ -157,8 +158,7 @@ fn run<'a>(rt: &HostRuntime, words: &'a [String]) -> Result<ExitCode, Stop<'a>> 
             replies_report(heap, read(rt, sheet)?.as_slice(), site, value)?
         }
     };
-    let text = report.text.as_str();
-    print!(rt; "{text}")?;
+    print!(rt; "{report}")?;
     if report.accepted {
         Ok(ExitCode::SUCCESS)
     } else {

@@ -1,17 +1,20 @@
 -- The transitions that go and answer find in the form of a run. Assumes nothing.
-use Rattle.std.proofs.Common.{◌≡◌, ℕ, suc, ◌+◌, ◌-◌, ◌<◌, ◌≤◌, true, false, ltb, List, [], ◌∷◌, ◌++◌, length, take, drop, Some, Option, sym, refl, ap, ◌∙◌, subst, add-one, arith, length-append, length-drop}
-use Rattle.std.specs.List.{ContainsAt as Has}
+use Rattle.std.proofs.Common.{◌≡◌, ℕ, suc, ◌+◌, ◌<◌, ◌≤◌, Bool, true, false, cond, eqb, ltb, List, [], ◌∷◌, ◌++◌, filter, length, drop, is_some, Some, None, Option, IfSome, MatchOption, sym, refl, ap, ◌∙◌, subst, add-one, arith, length-append}
+use Rattle.std.specs.List.{find, ContainsAt as Has}
+use Rattle.std.specs.Option.{option_map}
 use Rattle.std.proofs.ByRecursion.{has_append_right, has_append_left}
-use Rattle.std.proofs.lemmas.List.{drop_at, take_all}
-use Rattle.std.proofs.lemmas.Bool.{ltb-false}
+use Rattle.std.proofs.lemmas.List.{drop_at}
+use Rattle.std.proofs.lemmas.Bool.{ltb-false, eq-eqb}
+use Rattle.std.proofs.lemmas.Bool.Decides.{nat_tests}
 use Rattle.orc.specs.Meaning.{Meaning, handle, can_reply}
 use Rattle.orc.specs.Expressions.{Expression, pending, bytes}
 use Rattle.orc.specs.Calls.{due_count, Pending, pending_calls, handle_at}
 use Rattle.orc.specs.Steps.{Act}
+use Rattle.orc.specs.Sound.{standing}
 use Rattle.forms.specs.Reading.{expression_of}
-use Rattle.forms.specs.Heads.{IsForm, headed}
-use Rattle.forms.specs.declared.form.Head.{Head}
-use Rattle.forms.specs.declared.form.Head.TheVariants.{Stop, SiteCall, DefinitionCall, Parallel, Sequential, Pruning, Pending as PendingCall}
+use Rattle.forms.specs.Heads.{IsForm}
+use Rattle.forms.specs.Pendings.{pending_of}
+use Rattle.forms.specs.declared.pending.Pending.{Pending as PendingCall}
 use Rattle.forms.proofs.ReadBack.{bytes_read}
 use Rattle.files.specs.Contents.{file_of}
 use Rattle.walks.specs.Capacity.{capacity}
@@ -20,11 +23,14 @@ use Rattle.places.specs.Places.{due_place}
 use Rattle.places.specs.Scans.{ticket_place}
 use Rattle.places.specs.Frames.{nearest_frame}
 use Rattle.places.specs.declared.stretch.Stretch.{Stretch}
+use Rattle.places.specs.declared.tickets.Placed.{Placed}
 use Rattle.places.proofs.Gaps.{before, after, bytes_filled, calls_before, calls_after, calls_filled}
 use Rattle.places.proofs.Locating.{ticket_located}
-use Rattle.places.proofs.Splicing.{replies_take_effect}
 use Rattle.runs.specs.declared.call.Call.TheVariants.{Go, Answer}
+use Rattle.runs.specs.declared.refusal.Refusal.{Refusal}
 use Rattle.runs.specs.declared.refusal.Refusal.TheVariants.{NoneDue, OutsideEveryWindow, RecordFull}
+use Rattle.runs.specs.States.{State}
+use Rattle.runs.proofs.Finding.{kept_only}
 use Rattle.runs.specs.Outcomes.{Takes, by_go, by_answer, longest_record, Refuses, is_none_due, is_outside_every_window, is_record_full}
 use Rattle.steps.specs.Made.{Made}
 use Rattle.steps.specs.Replied.{Replied, publishes, spawns, binds}
@@ -33,7 +39,7 @@ use Rattle.steps.proofs.Transitions.{made_calls_are_transitions, due_calls_can_b
 use Rattle.engine.specs.declared.plain.Plain.{Plain}
 use Rattle.engine.specs.Held.{definitions_held}
 use Rattle.engine.specs.Stands.{state_of}
-use Rattle.engine.specs.Moves.{Move, FormWithin, ReplyStep}
+use Rattle.engine.specs.Moves.{Move, FormWithin, StandsThere, ReplyStep}
 use Rattle.engine.proofs.Given.{keeps}
 
 -- the form of a run is no larger than a form may be
@@ -94,26 +100,29 @@ form_within (publishes h) = tt
 form_within (spawns s h e) = tt
 form_within (binds s q h e same f) = (f.ordered, f.within, f.form)
 
--- the head of a pending call
-pub pending_head : (h : Head) (k s v c : ℕ) → headed h ≡ pending k s v c → h ≡ PendingCall (record { ticket = k; site = s; value = v; clock = c })
-pending_head Stop k s v c is = absurd (let z : ◌≡◌ {A = ℕ} 0 1 = cc in omega arith)
-pending_head (SiteCall x q) k s v c is = absurd (let z : ◌≡◌ {A = ℕ} 0 1 = cc in omega arith)
-pending_head (DefinitionCall x q) k s v c is = absurd (let z : ◌≡◌ {A = ℕ} 0 1 = cc in omega arith)
-pending_head (Parallel f g) k s v c is = absurd (let z : ◌≡◌ {A = ℕ} 0 1 = cc in omega arith)
-pending_head (Sequential x f g) k s v c is = absurd (let z : ◌≡◌ {A = ℕ} 0 1 = cc in omega arith)
-pending_head (Pruning x f g) k s v c is = absurd (let z : ◌≡◌ {A = ℕ} 0 1 = cc in omega arith)
-pending_head (PendingCall p) k s v c is =
-    let a : p.ticket ≡ k = cc in
-    let b : p.site ≡ s = cc in
-    let d : p.value ≡ v = cc in
-    let e : p.clock ≡ c = cc in
-    ap PendingCall (λ i. record { ticket = a i; site = b i; value = d i; clock = e i })
+-- what a search for a ticket finds
+pub stands_there : (s : State) (k : ℕ) (r : Option Placed) → is_some r ≡ ltb 0 (standing k s.expression) → option_map (λ p. p.place) r ≡ ticket_place k s.expression → option_map (λ p. pending_of p.call) r ≡ find (λ q. eqb k q.ticket) (pending_calls s.expression) → IfSome r (λ p. p.call.ticket ≡ k) → MatchOption r (standing k s.expression ≡ 0) (λ p. (p.call.ticket ≡ k) × StandsThere s k p)
+stands_there s k None found place call ticket = grind (arith, nat_tests)
+stands_there s k (Some p) found place call ticket = (ticket, record { place = sym place; call = sym call })
+
+-- a reply to a call is one to its ticket
+pub of_ticket : {m : Meaning} {s : State} {k j v site : ℕ} {a : Act} {bs : List ℕ} {q : Option Stretch} {bs' : List ℕ} → k ≡ j → ReplyStep m s k v site a bs q bs' → ReplyStep m s j v site a bs q bs'
+of_ticket {m} {s} {k} {j} {v} {site} {a} {bs} {q} {bs'} = subst (λ k. ReplyStep m s k v site a bs q bs')
+
+pub refused_of_ticket : {m : Meaning} {s : State} {k j v : ℕ} {f : Refusal} → k ≡ j → Refuses m s (Answer k v) f → Refuses m s (Answer j v) f
+refused_of_ticket {m} {s} {k} {j} {v} {f} = subst (λ k. Refuses m s (Answer k v) f)
+
+-- the first that passes, where only one does
+first_kept : {X : Type 0} (f : X → Bool) (xs : List X) (y x : X) → find f xs ≡ Some y → filter f xs ≡ x ∷ [] → y ≡ x
+first_kept f [] y x found kept = absurd (omega (arith, ap length kept))
+first_kept f (z ∷ zs) y x found kept = by (f z) (first_kept f zs y x) found kept
+  where
+    by : (b : Bool) → (find f zs ≡ Some y → filter f zs ≡ x ∷ [] → y ≡ x) → cond b (Some z) (find f zs) ≡ Some y → cond b (z ∷ filter f zs) (filter f zs) ≡ x ∷ [] → y ≡ x
+    by true rest found kept = cc
+    by false rest found kept = rest found kept
 
 -- Answer looks for the ticket j, and finds it at a place.
 module _ (p : Plain) (loaded : (state_of p).loaded ≡ true) (j place : ℕ) (found : ticket_place j (state_of p).expression ≡ Some place) where
-  pub call_whole : place + 12 ≤ length (content p.form)
-  call_whole = (replies_take_effect (content p.form) j place p.whole_form (keeps p).expression_kept.unbegun (keeps p).expression_kept.distinct found).whole
-
   -- the pending call that stands there
   read_there : (e : Expression) (rest : List ℕ) → expression_of (bytes e ++ rest) ≡ e
   unfolding expression_of
@@ -133,9 +142,15 @@ module _ (p : Plain) (loaded : (state_of p).loaded ≡ true) (j place : ℕ) (fo
         ap expression_of (ap (drop place) in-form ∙ drop_at (before d.gap) (bytes call ++ after d.gap) place from) ∙ read_there call (after d.gap),
       )
 
-  -- it is read there again, from the form's bytes up to their end
-  pub read_as : (bs cs : List ℕ) (e : Expression) → bs ≡ content p.form → cs ≡ take (length bs - place) (drop place bs) → e ≡ expression_of cs → e ≡ pending j located.0.site located.0.argument located.0.since
-  read_as bs cs e same part is = is ∙ ap expression_of (part ∙ take_all (length bs - place) (drop place bs) (omega (arith, length-drop place bs)) ∙ ap (drop place) same) ∙ located.3
+  -- it is the one that a search for the ticket finds
+  module _ (call : PendingCall) (search_finds : find (λ q. eqb j q.ticket) (pending_calls (state_of p).expression) ≡ Some (pending_of call)) where
+    same_call : pending_of call ≡ located.0
+    same_call =
+        first_kept (λ (q : Pending). eqb j q.ticket) (pending_calls (state_of p).expression) (pending_of call) located.0 search_finds
+        (kept_only (λ (q : Pending). eqb j q.ticket) (pending_calls (state_of p).expression) located.0 ((keeps p).expression_kept.distinct j) located.1 (eq-eqb j located.0.ticket (sym located.2)))
+
+    pub found_call : pending call.ticket call.site call.value call.clock ≡ pending j located.0.site located.0.argument located.0.since
+    found_call = ap (λ (q : Pending). pending q.ticket q.site q.argument q.since) same_call ∙ ap (λ k. pending k located.0.site located.0.argument located.0.since) located.2
 
   -- the reply is v, and the call has been read
   module _ (v site argument since k : ℕ) (is : pending k site argument since ≡ pending j located.0.site located.0.argument located.0.since) where

@@ -1,13 +1,16 @@
 -- When a transition may be made, and time may pass. Assumes nothing.
-use Rattle.std.specs.Prelude.{◌≡◌, ℕ, ◌+◌, ◌<◌, ◌≤◌, true, List, length, IfSome, Option}
-use Rattle.std.specs.List.{between, ContainsAt as Has}
+use Rattle.std.specs.Prelude.{◌≡◌, ℕ, ◌+◌, ◌<◌, ◌≤◌, true, List, length, Some, IfSome, Option, ◌==◌}
+use Rattle.std.specs.List.{between, find, ContainsAt as Has}
 use Rattle.orc.specs.Meaning.{Meaning, Lawful}
 use Rattle.orc.specs.Expressions.{bytes, size}
 use Rattle.orc.specs.Calls.{Pending, pending_calls}
 use Rattle.orc.specs.Steps.{Act, Pass}
 use Rattle.forms.specs.Reading.{expression_of}
 use Rattle.forms.specs.Heads.{IsForm}
+use Rattle.forms.specs.Pendings.{pending_of}
+use Rattle.places.specs.Scans.{ticket_place}
 use Rattle.places.specs.declared.stretch.Stretch.{Stretch}
+use Rattle.places.specs.declared.tickets.Placed.{Placed}
 use Rattle.steps.specs.Laws.{withdrawn_with}
 use Rattle.runs.specs.declared.call.Call.{Call}
 use Rattle.runs.specs.declared.call.Call.TheVariants.{Answer, Wait}
@@ -31,6 +34,11 @@ pub record MayBeMade (m : Meaning) (s : State) (c : Call) (a : Act) (gone : List
 -- A stretch of the bytes, if there is one, is a form.
 abbrev pub FormWithin : List ℕ → Option Stretch → Type 0
 FormWithin bs q = IfSome q (λ r. (r.at ≤ r.end) × (r.end ≤ length bs) × IsForm (between r.at r.end bs))
+
+-- The first pending call with the ticket k, and its place in the form.
+pub record StandsThere (s : State) (k : ℕ) (p : Placed) : Type 0 where
+  pub place : ticket_place k s.expression ≡ Some p.place
+  pub call : find (λ q. k == q.ticket) (pending_calls s.expression) ≡ Some (pending_of p.call)
 
 -- The ticket k is that of a pending call, of the site; and the stretch q of the form bs, if there is one, is a form.
 pub record NamesCall (s : State) (k site : ℕ) (bs : List ℕ) (q : Option Stretch) : Type 0 where

@@ -39,13 +39,14 @@ impl<H: Host + Copy> Run<H> {
         ensures host { self.new.host ≡ self.old.host }
     {
         self.plain.loaded_file()?;
-        let Some(place) = self.plain.ticket_place(ticket) else {
+        let Some(standing) = self.plain.standing_call(ticket) else {
             return Err(Refusal::NotStanding(ticket));
         };
-        let (reply, site) = self.plain.reply_step(&self.host, ticket, place, value)?;
-        let form = simplify(&reply.form);
+        let reply = self.plain.reply_step(&self.host, standing, value)?;
+        let form = simplify(&reply.step.form);
         check_size(&form)?;
-        self.plain.answered(ticket, site, &reply, &form);
+        self.plain
+            .answered(ticket, standing.call.site, &reply, &form);
         Ok(())
     }
 

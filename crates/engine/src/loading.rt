@@ -17,6 +17,7 @@ use runs::refusal::Refusal;
 use walks::buffer::Buffer;
 
 // A buffer with bytes for which it has room.
+// Kept: a function of its own, which states that there is room; the public `extend_from_slice` asks for nothing.
 fn buffer_of(bytes: &[u8]) -> Buffer
     requires { length bytes.now ≤ capacity }
     ensures { content result ≡ bytes.now }

@@ -8,7 +8,7 @@ use crate::record::Record;
 use crate::table::Table;
 use walks::buffer::Buffer;
 
-// The file is that of a run whose file was accepted. With another nothing is loaded.
+// The file is there if it was accepted: with one that was refused nothing is loaded.
 #[derive(Clone, Copy)]
 pub(crate) struct Plain {
     pub(crate) file: Option<Buffer>,

@@ -9,6 +9,7 @@ ghost use Rattle.engine.specs.Shown.{Shows};
 
 use crate::run::Run;
 use crate::shown::SiteTotals;
+use crate::table::Totals;
 use events::event::Event;
 use forms::form::Form;
 use places::due::due_count;
@@ -74,13 +75,6 @@ impl<H> Run<H> {
     pub fn totals(&self, site: u8) -> Option<SiteTotals>
         ensures { MatchOption result (32 ≤ site) (λ t. (site < 32) × Shows (state_of self.now.plain) site t) }
     {
-        let line = self.plain.table.get(site)?;
-        Some(SiteTotals {
-            called: line.called,
-            answered: line.answered,
-            withdrawn: line.withdrawn,
-            lapsed: line.lapsed,
-            standing: line.called - line.answered - line.withdrawn - line.lapsed,
-        })
+        self.plain.table.get(site).map(Totals::shown)
     }
 }

@@ -4,7 +4,7 @@ use events::event::Event;
 use fixed::list::FixedList;
 
 // How many events a record can hold.
-pub(crate) const LONGEST: usize = 512;
+const LONGEST: usize = 512;
 
 // The events that have been recorded, the oldest first.
 pub(crate) type Record = FixedList<Event, LONGEST>;

@@ -7,6 +7,7 @@ use crate::record::Record;
 use events::event::Event;
 
 // Adds an event, for which there is room, behind the others.
+// Kept: a function of its own, which states that there is room; the public `push` asks for nothing, and may find none.
 pub(crate) fn record(events: &mut Record, event: Event)
     requires { length (entries events.old) < 512 }
     ensures { entries events.new ≡ entries events.old ++ (entry_of event ∷ []) }

@@ -42,15 +42,11 @@ impl<H: Host + Copy> Run<H> {
             (λ _. Faithful (H.Host.meaning host) (file_of file.now) × CallsHaveOneHistory (H.Host.meaning host) (file_of file.now))
             (λ _. NotLoadedStays (H.Host.meaning host)) }
     {
-        match check_file(&host, file) {
-            Ok(()) => {
-                let plain = Plain::loaded(file);
-                (Run { host, plain }, Ok(()))
-            }
-            Err(fault) => {
-                let plain = Plain::unloaded();
-                (Run { host, plain }, Err(fault))
-            }
-        }
+        let judged = check_file(&host, file);
+        let plain = match judged {
+            Ok(()) => Plain::loaded(file),
+            Err(_) => Plain::unloaded(),
+        };
+        (Run { host, plain }, judged)
     }
 }

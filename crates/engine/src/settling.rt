@@ -19,6 +19,7 @@ use walks::settling::settle_into;
 const LARGEST_FORM: usize = 4096;
 
 // A form with the pending calls ended that no window reaches at a tick, and simplified.
+// Kept: that the bytes are a form is asked here. A form asks nothing of its bytes; the fact stands in the type of a run.
 pub(crate) fn settle<H: Host>(host: &H, left: &Buffer, tick: u32) -> Buffer
     requires { IsForm (content left.now) }
     ensures { content result ≡ form_bytes (simplified (lapsed (H.Host.meaning host.now) tick (expression_of (content left.now)))) }
@@ -31,6 +32,7 @@ pub(crate) fn settle<H: Host>(host: &H, left: &Buffer, tick: u32) -> Buffer
 }
 
 // A form simplified, with every pending call left.
+// Kept: beside the public `simplify_into`, which writes behind what a buffer holds. Here the buffer is new, so there is room.
 pub(crate) fn simplify(left: &Buffer) -> Buffer
     requires { IsForm (content left.now) }
     ensures { content result ≡ form_bytes (simplified (expression_of (content left.now))) }

@@ -1,22 +1,20 @@
 // The transitions that go and answer make, before they take effect.
-ghost use Rattle.std.specs.Prelude.{◌≡◌, true, [], Some, MatchOption, MatchResult};
+ghost use Rattle.std.specs.Prelude.{◌≡◌, true, [], MatchOption, MatchResult};
 ghost use Rattle.orc.specs.Meaning.{Meaning};
 ghost use Rattle.orc.specs.Sound.{standing};
 ghost use Rattle.walks.specs.Contents.{content};
-ghost use Rattle.places.specs.Scans.{ticket_place};
 ghost use Rattle.runs.specs.declared.call.Call.TheVariants.{Go, Answer};
 ghost use Rattle.runs.specs.Outcomes.{Refuses};
 ghost use Rattle.events.specs.Acts.{act_of};
 ghost use Rattle.engine.specs.Stands.{state_of};
-ghost use Rattle.engine.specs.Moves.{Move, ReplyStep};
+ghost use Rattle.engine.specs.Moves.{Move, StandsThere, ReplyStep};
 
 use crate::plain::Plain;
-use crate::record::LONGEST;
 use files::contents::Contents;
-use forms::form::{Form, Head};
+use forms::form::Form;
 use hosts::host::Host;
 use places::due::{due_count, due_place};
-use places::tickets::ticket_place;
+use places::tickets::{Placed, first_with_ticket};
 use runs::refusal::Refusal;
 use steps::calls::make_call;
 use steps::replies::make_reply;
@@ -36,7 +34,7 @@ impl Plain {
         let Some(place) = due_place(form, n as usize) else {
             return Err(Refusal::NoneDue(due_count(form)));
         };
-        if self.events.len() >= LONGEST {
+        if self.events.is_full() {
             return Err(Refusal::RecordFull);
         }
         let contents = Contents::new(file.as_slice());
@@ -46,41 +44,37 @@ impl Plain {
         Ok(step)
     }
 
-    // Where the pending call of a ticket stands in the form, if it stands.
-    pub(crate) fn ticket_place(&self, ticket: u32) -> Option<usize>
+    // The pending call of a ticket and its place in the form, if it stands.
+    pub(crate) fn standing_call(&self, ticket: u32) -> Option<Placed>
         ensures { MatchOption result
             (standing ticket (state_of self.now).expression ≡ 0)
-            (λ p. ticket_place ticket (state_of self.now).expression ≡ Some p) }
+            (λ p. (p.call.ticket ≡ ticket) × StandsThere (state_of self.now) ticket p) }
     {
-        ticket_place(Form::new(self.form.as_slice()), ticket)
+        first_with_ticket(Form::new(self.form.as_slice()), ticket)
     }
 
-    // The transition of a reply to the pending call of a ticket, which stands at a place, and the site of the call.
+    // The transition of a reply to a pending call that stands in the form.
     pub(crate) fn reply_step<H: Host>(
         &self,
         host: &H,
-        ticket: u32,
-        place: usize,
+        standing: Placed,
         value: u16,
-    ) -> Result<(Reply, u8), Refusal>
-        requires { ((state_of self.now).loaded ≡ true) × (ticket_place ticket (state_of self.now).expression ≡ Some place) }
+    ) -> Result<Reply, Refusal>
+        requires { ((state_of self.now).loaded ≡ true) × StandsThere (state_of self.now) standing.call.ticket standing }
         ensures { MatchResult result
-            (λ x. ReplyStep (H.Host.meaning host.now) (state_of self.now) ticket value x.1 (act_of x.0.act) (content self.now.form) x.0.pruned (content x.0.form))
-            (λ f. Refuses (H.Host.meaning host.now) (state_of self.now) (Answer ticket value) f) }
+            (λ x. ReplyStep (H.Host.meaning host.now) (state_of self.now) standing.call.ticket value standing.call.site (act_of x.step.act) (content self.now.form) x.pruned (content x.step.form))
+            (λ f. Refuses (H.Host.meaning host.now) (state_of self.now) (Answer standing.call.ticket value) f) }
     {
-        let bytes = self.form.as_slice();
-        let Head::Pending(call) = Form::new(&bytes[place..]).head() else {
-            unreachable!()
-        };
+        let Placed { place, call } = standing;
         if !can_reply(host, call, u64::from(self.clock), value) {
-            return Err(Refusal::OutsideEveryWindow(ticket));
+            return Err(Refusal::OutsideEveryWindow(call.ticket));
         }
-        if self.events.len() >= LONGEST {
+        if self.events.is_full() {
             return Err(Refusal::RecordFull);
         }
-        let Some(reply) = make_reply(Form::new(bytes), place, value) else {
+        let Some(reply) = make_reply(Form::new(self.form.as_slice()), place, value) else {
             unreachable!()
         };
-        Ok((reply, call.site))
+        Ok(reply)
     }
 }

@@ -19,7 +19,8 @@ use walks::ages::can_stand;
 // The last tick that a clock can show.
 const LAST_CLOCK: u64 = 4_294_967_294;
 
-// The ticket of the first pending call of a form that cannot be unanswered at a tick.
+// The ticket of the first pending call of a form that cannot stand without a reply any longer at a tick.
+// Kept: that the bytes are a form is asked here. A form asks nothing of its bytes; the fact stands in the type of a run.
 fn first_late<H: Host>(host: &H, form: Form, tick: u64) -> Option<u32>
     requires { IsForm form.bytes.now }
     ensures { MatchOption result

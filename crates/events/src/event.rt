@@ -26,6 +26,7 @@ impl Event {
     }
 
     // The site of a call, and 0 for any other event.
+    // Kept: a number, here and below, and not an `Option`. An event is read as clock, kind, number and value, and each is there.
     pub fn number(self) -> u8
         ensures { result ≡ (shows (entry_of self).act).number }
     {

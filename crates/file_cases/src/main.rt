@@ -23,6 +23,7 @@ const TWICE: Pair<Local, Local> = Pair {
 };
 
 // Let with a mark, 0 for a value and 1 for a variable, and a number.
+// Kept: here and below, the cases write their bytes by hand, and not by the code that they try.
 fn let_with(mark: u8, number: u16) -> [u8; 5] {
     let [high, low] = number.to_be_bytes();
     [1, 0, mark, high, low]
@@ -37,7 +38,7 @@ fn variable(number: u16) -> [u8; 5] {
 }
 
 // What comes of a file.
-// Kept: `sheet_cases` prints the same line of a sheet. A crate for this one match would be longer than the match.
+// Kept: `sheet_cases` prints such a line of a sheet. They are two lines in two programs, and no third needs them.
 fn show<H: Host>(rt: &HostRuntime, host: &H, name: &str, bytes: &[u8]) -> io::Result<()> {
     let length = bytes.len();
     match check_file(host, bytes) {
@@ -268,7 +269,8 @@ fn sample(heap: Global) -> Result<Vec<u8>, AllocError> {
     .concat(heap)
 }
 
-// As deep as it goes: so many commands, some with a part behind each, and so many stops behind them all.
+// Goals that nest as deep as 4,096 bytes allow, or one byte too deep. Each is a stretch of bytes so many times, and then so
+// many stops.
 fn nesting(rt: &HostRuntime) -> io::Result<()> {
     let heap = rt.alloc();
     let table: [(&str, &[u8], usize, usize); 9] = [
@@ -290,7 +292,8 @@ fn nesting(rt: &HostRuntime) -> io::Result<()> {
     Ok(())
 }
 
-// How many files came to what, by the fault's number, 0 for accepted; and a sum over all of the verdicts in order.
+// Verdicts on many files: how many had each number, 0 if accepted and else the fault's; and one sum made of all their numbers
+// and places, in order.
 #[derive(Clone, Copy, Default)]
 struct Tally {
     counts: [u32; 9],
@@ -299,10 +302,9 @@ struct Tally {
 
 impl Tally {
     fn add(&mut self, verdict: Result<(), Fault>) {
-        let (number, place) = match verdict {
-            Ok(()) => (0, 0),
-            Err(fault) => (fault.number(), fault.place()),
-        };
+        let (number, place) = verdict
+            .err()
+            .map_or((0, 0), |fault| (fault.number(), fault.place()));
         if let Some(count) = self.counts.get_mut(usize::from(number)) {
             *count = count.wrapping_add(1);
         }
@@ -322,6 +324,7 @@ impl Tally {
 }
 
 // Each byte of a file in turn replaced by each other.
+// Kept: an index. The byte is replaced and put back while the whole file is judged, which no iterator over it allows.
 fn damaged(rt: &HostRuntime) -> io::Result<()> {
     let mut file = sample(rt.alloc())?;
     let mut tally = Tally::default();
@@ -336,7 +339,7 @@ fn damaged(rt: &HostRuntime) -> io::Result<()> {
     tally.show(rt, "damaged")
 }
 
-// A row of pseudo-random numbers, by the last.
+// A source of pseudo-random numbers. It holds the state that the next one is made of.
 #[derive(Drop)]
 struct Dice(u32);
 
@@ -347,7 +350,7 @@ impl Dice {
         self.0 >> 16
     }
 
-    // The next byte: any one time in sixteen, and else a command of a file, 0 to 5.
+    // The next byte. One time in sixteen, about, it is any byte, and else a command of a file, 0 to 5.
     fn draw_byte(&mut self) -> u8 {
         let bound = if self.draw() % 16 == 0 { 256 } else { 6 };
         (self.draw() % bound) as u8

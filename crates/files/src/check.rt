@@ -42,6 +42,8 @@ fn read_small(bytes: &[u8], at: usize) -> Result<Small, Fault>
 }
 
 // The variable that the command at an offset binds.
+// Kept: that offsets are small, here and below, so that no sum with one overflows. A type of its own would be wrapped and
+// unwrapped at each operand.
 fn read_binder(bytes: &[u8], at: usize) -> Result<Small, Fault>
     requires { at ≤ 4096 }
     ensures rules { ByRules (binder_rules bytes.now at) result }
@@ -85,9 +87,7 @@ impl<'a, H: Host> Judge<'a, H> {
         ensures { ByRules (parameter_rules self.now.bytes.now (bits scope.bound) at) result }
     {
         let mark = read::<u8>(self.bytes, at)?;
-        let Ok(mark) = Mark::try_from(mark) else {
-            return Err(Fault::OperandBeyondRange(at));
-        };
+        let mark = Mark::try_from(mark).map_err(|_| Fault::OperandBeyondRange(at))?;
         let number = read::<u16>(self.bytes, at + 1)?;
         if mark == Mark::Value {
             return Ok(());
@@ -130,9 +130,7 @@ impl<'a, H: Host> Judge<'a, H> {
         ensures judged { CommandJudged (H.Host.meaning self.now.host.now) self.now.count self.now.bytes.now (bits scope.bound) at result }
     {
         let byte = read::<u8>(self.bytes, at)?;
-        let Ok(command) = Command::try_from(byte) else {
-            return Err(Fault::UnknownCommand(at));
-        };
+        let command = Command::try_from(byte).map_err(|_| Fault::UnknownCommand(at))?;
         match command {
             Command::Stop => Ok(None),
             Command::SiteCall => {
@@ -199,6 +197,7 @@ impl<'a, H: Host> Judge<'a, H> {
     }
 
     // All definitions, and the offset behind them.
+    // Kept: a `for` that carries the offset on, which says what happens at each definition in its own line.
     fn definitions(&self) -> Result<usize, Fault>
         requires { 1 ≤ length self.now.bytes.now }
         ensures { MatchResult result

@@ -52,6 +52,7 @@ fn split_definition<'a>(bytes: &'a [u8]) -> (&'a [u8], &'a [u8])
 }
 
 // What stands behind so many definitions of a file.
+// Kept: a `for` over what is left. A fold would name it twice.
 fn behind_definitions<'a>(file: &'a [u8], count: usize) -> &'a [u8]
     ensures { result.now ≡ behind_definitions count (drop 1 file.now) }
 {

@@ -1,6 +1,7 @@
 // The items of a list, read and changed.
 ghost use Rattle.std.specs.Prelude.{◌≡◌, ◌+◌, ◌-◌, ◌<◌, ◌≤◌, ◌↔◌, [], ◌∷◌, ◌++◌, length, take, max, slice_get, IsOk, OnOk, OnErr};
 ghost use Rattle.std.specs.List.{remove_range};
+ghost use Rattle.std.specs.Bool.{MatchBool};
 ghost use Rattle.fixed.specs.Items.{items_of, with_last};
 
 use crate::full::Full;
@@ -8,6 +9,7 @@ use crate::list::FixedList;
 
 impl<T: Copy, const N: usize> FixedList<T, N> {
     // With no items. Each slot holds `unused` until there is an item for it.
+    // Kept: a value that the caller gives, and not a default. Not everything that is listed has one, an event for one.
     pub fn new(unused: T) -> Self
         ensures { items_of result ≡ [] }
     {
@@ -25,6 +27,13 @@ impl<T: Copy, const N: usize> FixedList<T, N> {
         self.as_slice().len()
     }
 
+    // Whether there is room for no item more.
+    pub fn is_full(&self) -> bool
+        ensures { MatchBool result (length (items_of self.now) ≡ N) (length (items_of self.now) < N) }
+    {
+        self.len == N
+    }
+
     // The items, in their order.
     pub fn as_slice(&self) -> &[T]
         ensures { result.now ≡ items_of self.now }
@@ -38,7 +47,7 @@ impl<T: Copy, const N: usize> FixedList<T, N> {
         ensures added { OnOk result (items_of self.new ≡ items_of self.old ++ (item ∷ [])) }
         ensures kept { OnErr result (self.new ≡ self.old) }
     {
-        if self.len == N {
+        if self.is_full() {
             return Err(Full);
         }
         self.slots[self.len] = item;
@@ -96,6 +105,7 @@ impl<T: Copy, const N: usize> FixedList<T, N> {
     }
 
     // Puts an item in the place of the last, if there is one.
+    // Kept: in place of a `&mut` to the last. What a lent item leaves would take more words than a copy put back.
     pub fn replace_last(&mut self, item: T)
         ensures { items_of self.new ≡ with_last item (items_of self.old) }
     {

@@ -4,6 +4,8 @@ ghost use Rattle.std.specs.Prelude.{◌≡◌, ◌≤◌, length, ⊤};
 use std::alloc::AllocError;
 
 // The first `len` slots hold the items. What the others hold is of no account.
+//
+// It is `Copy`, so it has no model: one that forgets the unused slots could not be.
 pub struct FixedList<T, const N: usize> {
     pub(crate) slots: [T; N],
     pub(crate) len: usize,
@@ -11,6 +13,7 @@ pub struct FixedList<T, const N: usize> {
     ghost few: { len ≤ N },
 }
 
+// Kept: by hand. A generic struct with a ghost field derives no `Clone`.
 impl<T: Copy, const N: usize> Clone for FixedList<T, N> {
     ghost is_clone = { λ list copy. copy ≡ list };
 

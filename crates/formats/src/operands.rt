@@ -56,6 +56,7 @@ impl Operand for u32 {
 }
 
 // The operand at an offset.
+// Kept: bytes and an offset, and not one value for both. Which operands of a command are read depends on those before.
 pub fn read<T: Operand>(bytes: &[u8], at: usize) -> Result<T, Fault>
     ensures { MatchResult result (λ n. (at + T.width ≤ length bytes.now) × (n ≡ T.number_at bytes.now at)) (λ f. (length bytes.now < at + T.width) × (f ≡ Fault.CutShort (length bytes.now))) }
 {

@@ -1,7 +1,8 @@
 -- What the heads of the code stand for. Assumes nothing.
-use Rattle.std.specs.Prelude.{◌≡◌, ℕ, ◌+◌, ◌≤◌, List, ◌∷◌, ◌++◌, length}
+use Rattle.std.specs.Prelude.{◌≡◌, ℕ, ◌+◌, ◌≤◌, List, ◌∷◌, ◌++◌, length, Some, None, Option}
 use Rattle.orc.specs.Expressions.{Parameter, value, variable, Expression, stop, site_call, definition_call, parallel, sequential, pruning, pending, bytes}
 use Rattle.forms.specs.Reading.{read, expression_of}
+use Rattle.forms.specs.declared.command.Command.{Command}
 use Rattle.forms.specs.declared.form.Form.{Form}
 use Rattle.forms.specs.declared.form.Parameter.{Parameter as Operand}
 use Rattle.forms.specs.declared.form.Parameter.TheVariants.{Value, Variable}
@@ -29,6 +30,26 @@ headed (Parallel f g) = parallel (expression f) (expression g)
 headed (Sequential x f g) = sequential x (expression f) (expression g)
 headed (Pruning x f g) = pruning x (expression f) (expression g)
 headed (Pending p) = pending p.ticket p.site p.value p.clock
+
+-- the parts of a head, if it has any
+abbrev pub parts_of : Head → Option (Form × Form)
+parts_of Stop = None
+parts_of (SiteCall s p) = None
+parts_of (DefinitionCall i p) = None
+parts_of (Parallel f g) = Some (f, g)
+parts_of (Sequential x f g) = Some (f, g)
+parts_of (Pruning x f g) = Some (f, g)
+parts_of (Pending p) = None
+
+-- the command that it begins with
+abbrev pub command_of : Head → Command
+command_of Stop = Command.Stop
+command_of (SiteCall s p) = Command.SiteCall
+command_of (DefinitionCall i p) = Command.DefinitionCall
+command_of (Parallel f g) = Command.Parallel
+command_of (Sequential x f g) = Command.Sequential
+command_of (Pruning x f g) = Command.Pruning
+command_of (Pending p) = Command.Pending
 
 -- The parts of a head are stretches of the form: behind the command and its operand, one behind the other.
 abbrev pub MadeOf : List ℕ → Head → Type 0

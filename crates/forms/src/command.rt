@@ -1,5 +1,5 @@
 // The commands of a form and their bytes.
-ghost use Rattle.std.specs.Prelude.{◌≡◌};
+ghost use Rattle.std.specs.Prelude.{◌≡◌, ◌++◌, Some, codes, decimal};
 ghost use Rattle.formats.specs.Widths.{width_of};
 ghost use Rattle.forms.specs.Shapes.{has_parts, has_parameter};
 ghost use Rattle.forms.specs.Commands.{byte_of, Decodes};
@@ -44,8 +44,11 @@ impl TryFrom<u8> for Command {
 }
 
 impl fmt::Display for NoCommand {
+    ghost output = { λ e. Some (codes "no command of a form has byte " ++ decimal e.0) };
+
     fn fmt<W: fmt::Write>(&self, f: &mut fmt::Formatter<W>) -> fmt::Result {
-        write!(f, "no command of a form has byte {}", self.0)
+        let byte = self.0;
+        write!(f, "no command of a form has byte {byte}")
     }
 }
 

@@ -95,6 +95,37 @@ impl Parameter {
     }
 }
 
+impl<'a> Head<'a> {
+    ghost use Rattle.forms.specs.Heads.{parts_of, command_of};
+
+    // The command that it begins with.
+    pub fn command(self) -> Command
+        ensures { result ≡ command_of self.entry }
+    {
+        match self {
+            Head::Stop => Command::Stop,
+            Head::SiteCall { .. } => Command::SiteCall,
+            Head::DefinitionCall { .. } => Command::DefinitionCall,
+            Head::Parallel(..) => Command::Parallel,
+            Head::Sequential(..) => Command::Sequential,
+            Head::Pruning(..) => Command::Pruning,
+            Head::Pending(_) => Command::Pending,
+        }
+    }
+
+    // Its parts, if it has any.
+    pub fn parts(self) -> Option<(Form<'a>, Form<'a>)>
+        ensures { result ≡ parts_of self.entry }
+    {
+        match self {
+            Head::Parallel(f, g) | Head::Sequential(_, f, g) | Head::Pruning(_, f, g) => {
+                Some((f, g))
+            }
+            _ => None,
+        }
+    }
+}
+
 impl<'a> Form<'a> {
     // Any bytes, to be read as a form.
     pub fn new(bytes: &'a [u8]) -> Form<'a>
@@ -143,6 +174,7 @@ impl<'a> Form<'a> {
                 let (f, g) = parts(&bytes[2..]);
                 Head::Pruning(bytes[1], f, g)
             }
+            // Kept: a match, since the borrow checker does not cover `map_or` with a variant whose type has a lifetime.
             Command::Pending => match Pending::read(bytes, 0) {
                 Some(pending) => Head::Pending(pending),
                 None => Head::Stop,

@@ -1,4 +1,5 @@
 // The marks of parameters and their bytes.
+ghost use Rattle.std.specs.Prelude.{◌++◌, Some, codes, decimal};
 ghost use Rattle.forms.specs.Marks.{DecodesMark};
 
 use std::error::Error;
@@ -30,8 +31,11 @@ impl TryFrom<u8> for Mark {
 }
 
 impl fmt::Display for NoMark {
+    ghost output = { λ e. Some (codes "no parameter is marked " ++ decimal e.0) };
+
     fn fmt<W: fmt::Write>(&self, f: &mut fmt::Formatter<W>) -> fmt::Result {
-        write!(f, "no parameter is marked {}", self.0)
+        let mark = self.0;
+        write!(f, "no parameter is marked {mark}")
     }
 }
 

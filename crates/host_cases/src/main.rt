@@ -115,8 +115,7 @@ fn pairs(rt: &HostRuntime) -> io::Result<()> {
 // The report on a call, for a controller with a sheet.
 fn report(rt: &HostRuntime, sheet: &[u8], site: u8, value: u16) -> io::Result<()> {
     let report = replies_report(rt.alloc(), sheet, site, value)?;
-    let text = report.text.as_str();
-    print!(rt; "{text}")
+    print!(rt; "{report}")
 }
 
 fn reports(rt: &HostRuntime) -> io::Result<()> {

@@ -3,7 +3,8 @@ ghost use Rattle.std.specs.Prelude.{◌≡◌, length};
 ghost use Rattle.orc.specs.Meaning.{Meaning, Lawful, handle, is_known};
 ghost use Rattle.hosts.specs.Answers.{ticks_at, values_at};
 
-// Kept: the questions are a rule of the project, so site, value and number stand apart and ends come as pairs.
+// Kept: site, value and number as they are, and the two ends of a window in pairs. A host answers what it is asked, and its caller
+// needs no type of its own for the question.
 pub trait Host {
     // What each site can reply to each value, and when. It stays as it is for the life of a run.
     ghost meaning: { Self → Meaning };

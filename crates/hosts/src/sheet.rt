@@ -27,14 +27,21 @@ fn holds_call(row: &Row, site: u8, value: u16) -> bool
     row.site() == site && (first..=last).contains(&value)
 }
 
+// The host of the rows of a sheet.
+impl From<Rows> for Sheet {
+    ghost from_gives = { λ rows s. s.rows ≡ rows };
+
+    fn from(rows: Rows) -> Sheet {
+        Sheet { rows }
+    }
+}
+
 impl Sheet {
     // The host of a sheet's bytes: its meaning is that of what the bytes come to.
     pub fn new(bytes: &[u8]) -> Sheet
         ensures { (o : Outcome) × SheetOutcome bytes.now o × (sheet_meaning (rows_of result.rows.list) ≡ outcome_meaning o) }
     {
-        Sheet {
-            rows: read_sheet(bytes).unwrap_or_default(),
-        }
+        Sheet::from(read_sheet(bytes).unwrap_or_default())
     }
 
     // The first row that holds a value of a site.

@@ -18,6 +18,7 @@ const COUNTS: &str = "\n* published once  2 to 9 so often  + more often\n";
 
 // The calls and the publications of a run whose clock stands at a tick, drawn to a scale. It begins with the scale and the
 // clock, or says that there is nothing to show.
+// Kept: three parameters. A struct of them would be made here, and taken apart again in `drawn`.
 pub fn picture(
     heap: Global,
     lanes: &[Lane],
@@ -152,10 +153,13 @@ impl Drawing {
             return self.text.push_str("nothing published\n");
         };
         self.add_padded(PUBLISHED)?;
-        for at in 0..=furthest(publications, self.spacing) {
-            let count = count_at(publications, self.spacing, at);
-            self.text.push(count_mark(count))?;
-        }
+        let spacing = self.spacing;
+        let marks = (0..=furthest(publications, spacing)).map(|at| count_mark(count_at(
+            publications,
+            spacing,
+            at,
+        )));
+        self.text.extend(marks)?;
         write!(self.text, "\nvalues by tick  {first}")?;
         for publication in rest {
             write!(self.text, ", {publication}")?;

@@ -3,18 +3,15 @@ ghost use Rattle.std.specs.Prelude.{◌≡◌, ◌*◌, ◌/◌, ◌<◌, min, n
 ghost use Rattle.pictures.specs.Drawings.{Scale};
 
 // How many columns a picture has at most.
-const WIDTH: u64 = 60;
+const WIDTH: u32 = 60;
 
-// The last column.
-const LAST: u32 = 59;
-
-// 1, 2, 5 and ten times as much again and again, but for the last.
+// The scales of the series 1, 2, 5, 10, 20, 50 and so on, up to the last but one that a clock can need.
 const STEPS: [u32; 24] = [
     1, 2, 5, 10, 20, 50, 100, 200, 500, 1000, 2000, 5000, 10000, 20000, 50000, 100000, 200000,
     500000, 1000000, 2000000, 5000000, 10000000, 20000000, 50000000,
 ];
 
-// The last of the series that a clock can need.
+// The scale after them, at which every clock fits.
 const LARGEST: u32 = 100_000_000;
 
 // The ticks that one column stands for: at least one.
@@ -37,7 +34,7 @@ impl Spacing {
     pub(crate) fn column(&self, tick: u32) -> u8
         ensures { result ≡ min (tick / self.now.ticks) 59 }
     {
-        (tick / self.ticks).min(LAST) as u8
+        (tick / self.ticks).min(WIDTH - 1) as u8
     }
 }
 
@@ -59,5 +56,5 @@ fn first_fit(clock: u32, steps: &[u32]) -> Option<u32>
 fn fits(clock: u32, ticks: u32) -> bool
     ensures { result ≡ nat_lt clock (60 * ticks) }
 {
-    u64::from(clock) < WIDTH * u64::from(ticks)
+    u64::from(clock) < u64::from(WIDTH) * u64::from(ticks)
 }

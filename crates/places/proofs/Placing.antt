@@ -145,3 +145,12 @@ first_place_found j (p ∷ ps) = rw (either_way p.call.ticket j) (by (eqb j p.ca
     by : (is : Bool) (o : Option Placed) (r : Option ℕ) → option_map (λ p. p.place) o ≡ r → option_map (λ p. p.place) (cond is (Some p) o) ≡ cond is (Some p.place) r
     by true o r rest = refl
     by false o r rest = rest
+
+-- and that call itself
+pub first_call_found : (j : ℕ) (ps : List Placed) → option_map (λ p. p.call) (find (λ p. eqb p.call.ticket j) ps) ≡ find (λ q. eqb j q.ticket) (map (λ p. p.call) ps)
+first_call_found j [] = refl
+first_call_found j (p ∷ ps) = rw (either_way p.call.ticket j) (by (eqb j p.call.ticket) _ _ (first_call_found j ps))
+  where
+    by : (is : Bool) (o : Option Placed) (r : Option Pending) → option_map (λ p. p.call) o ≡ r → option_map (λ p. p.call) (cond is (Some p) o) ≡ cond is (Some p.call) r
+    by true o r rest = refl
+    by false o r rest = rest

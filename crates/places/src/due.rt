@@ -11,10 +11,7 @@ use forms::form::{Form, Head, Parameter};
 fn ready_calls(parameter: Parameter) -> usize
     ensures { result ≡ ready (parameter_of parameter) }
 {
-    match parameter {
-        Parameter::Value(_) => 1,
-        Parameter::Variable(_) => 0,
-    }
+    usize::from(parameter.value().is_some())
 }
 
 // How many calls of a form are due.
@@ -42,6 +39,7 @@ fn seek_here(parameter: Parameter, n: usize) -> Result<usize, usize>
 }
 
 // The offset of the due call n of a form, or else how many due calls there are.
+// Kept: a count as the error, as a binary search has the place where it stopped. In closures the two parts would nest.
 fn seek(form: Form, n: usize) -> Result<usize, usize>
     ensures { MatchResult result (EndsAt form.entry.bytes.now n) (PassesAll form.entry.bytes.now n) }
 {

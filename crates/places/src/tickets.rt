@@ -1,10 +1,13 @@
 // The pending calls of a form, which a scan meets command by command.
-ghost use Rattle.std.specs.Prelude.{◌≡◌, ℕ, ◌+◌, ◌≤◌, length, is_some, IfSome, nat_lt, All};
+ghost use Rattle.std.specs.Prelude.{◌≡◌, ℕ, ◌+◌, ◌≤◌, length, is_some, IfSome, nat_eq, nat_lt, All};
+ghost use Rattle.std.specs.List.{find};
+ghost use Rattle.std.specs.Option.{option_map};
 ghost use Rattle.orc.specs.Calls.{pending_calls};
 ghost use Rattle.orc.specs.Sound.{standing};
 ghost use Rattle.forms.specs.Heads.{expression, IsForm};
+ghost use Rattle.forms.specs.Pendings.{pending_of};
 ghost use Rattle.places.specs.Scans.{behind, placed_from, first_place, ticket_place};
-ghost use Rattle.places.specs.Tickets.{placed_left, pendings_left};
+ghost use Rattle.places.specs.Tickets.{placed_of, placed_left, pendings_left};
 
 use formats::widths::width;
 use forms::form::Form;
@@ -42,6 +45,7 @@ impl<'a> Iterator for PendingCalls<'a> {
 
     ghost remaining = { item_count placed_left };
 
+    // Kept: a loop. How far the next command stands is read from the bytes, so no slice method steps through them.
     fn next(&mut self) -> Option<Placed> {
         while let Some(next) = behind_command(self.bytes, self.at) {
             let place = self.at;
@@ -54,16 +58,36 @@ impl<'a> Iterator for PendingCalls<'a> {
     }
 }
 
+// The pending calls that a scan of a form meets from an offset on.
+pub fn pending_calls_from(form: Form, from: usize) -> PendingCalls
+    ensures placed { placed_left result ≡ placed_from form.entry.bytes.now from }
+    ensures within { All (λ p. p.place + 12 ≤ length form.entry.bytes.now) (placed_left result) }
+{
+    PendingCalls {
+        bytes: form.as_bytes(),
+        at: from,
+    }
+}
+
 // The pending calls of a form, from the left.
 pub fn pending_calls(form: Form) -> PendingCalls
     ensures placed { placed_left result ≡ placed_from form.entry.bytes.now 0 }
     ensures all { IsForm form.entry.bytes.now → pendings_left result ≡ pending_calls (expression form.entry) }
     ensures within { All (λ p. p.place + 12 ≤ length form.entry.bytes.now) (placed_left result) }
 {
-    PendingCalls {
-        bytes: form.as_bytes(),
-        at: 0,
-    }
+    pending_calls_from(form, 0)
+}
+
+// The first pending call of a form with a ticket.
+pub fn first_with_ticket(form: Form, ticket: u32) -> Option<Placed>
+    ensures first { option_map placed_of result ≡ find (λ p. nat_eq p.call.ticket ticket) (placed_from form.entry.bytes.now 0) }
+    ensures place { IsForm form.entry.bytes.now → option_map (λ p. p.place) result ≡ ticket_place ticket (expression form.entry) }
+    ensures call { IsForm form.entry.bytes.now → option_map (λ p. pending_of p.call) result ≡ find (λ q. nat_eq ticket q.ticket) (pending_calls (expression form.entry)) }
+    ensures found { IsForm form.entry.bytes.now → is_some result ≡ nat_lt 0 (standing ticket (expression form.entry)) }
+    ensures ticket { IfSome result (λ p. p.call.ticket ≡ ticket) }
+    ensures within { IfSome result (λ p. p.place + 12 ≤ length form.entry.bytes.now) }
+{
+    pending_calls(form).find(|placed| placed.call.ticket == ticket)
 }
 
 // The offset of the first pending call of a form with a ticket.
@@ -73,7 +97,5 @@ pub fn ticket_place(form: Form, ticket: u32) -> Option<usize>
     ensures first { result ≡ first_place ticket (placed_from form.entry.bytes.now 0) }
     ensures within { IfSome result (λ p. p + 12 ≤ length form.entry.bytes.now) }
 {
-    pending_calls(form)
-        .find(|placed| placed.call.ticket == ticket)
-        .map(|placed| placed.place)
+    first_with_ticket(form, ticket).map(|placed| placed.place)
 }

@@ -20,6 +20,7 @@ pub fn play<H: Host + Copy>(
 {
     let (mut run, judged) = Run::begin(host, file);
     let mut responses = Vec::new(heap);
+    // Kept: a loop that pushes. Each call changes the run, and the next one finds it so.
     for call in calls {
         responses.push(run.make(*call))?;
     }

@@ -8,7 +8,7 @@ use hosts::host::Host;
 use hosts::local::Local;
 use hosts::pair::Pair;
 use hosts::sheet::Sheet;
-use sheets::rows::check_sheet;
+use sheets::rows::read_sheet;
 
 // The local sites, and from 4 on those of a sheet; or the fault of a sheet that is refused.
 pub(crate) fn controller(sheet: &[u8]) -> Result<Pair<Local, Sheet>, Fault>
@@ -16,10 +16,9 @@ pub(crate) fn controller(sheet: &[u8]) -> Result<Pair<Local, Sheet>, Fault>
         (λ host. (rows : List SheetRow) × SheetOutcome sheet.now (Ok rows) × (⟦<Pair<Local, Sheet> as Host>⟧.meaning host ≡ controller (Ok rows)))
         (λ f. SheetOutcome sheet.now (Err f)) }
 {
-    check_sheet(sheet)?;
     Ok(Pair {
         first: Local,
-        second: Sheet::new(sheet),
+        second: Sheet::from(read_sheet(sheet)?),
         split: 4,
     })
 }

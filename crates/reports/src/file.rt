@@ -13,10 +13,11 @@ use formats::fault::Fault;
 use forms::form::{Form, Head, Parameter};
 use forms::pending::Pending;
 use hosts::host::Host;
+use hosts::local::LocalSite;
 use std::alloc::{AllocError, Global};
 use std::fmt;
 
-// How far the lines of a deep tree are indented.
+// The depth from which on the lines of a tree are indented no further.
 const DEEPEST: usize = 40;
 
 // The report of a file, judged with a host. Its first line is the verdict on the bytes.
@@ -72,7 +73,7 @@ fn add_tree(text: &mut String, form: Form<'_>, depth: usize) -> Result<(), Alloc
     let head = form.head();
     let indent = 2 * depth.min(DEEPEST);
     writeln!(text, "{:indent$}{}", "", Line(head))?;
-    if let Head::Parallel(f, g) | Head::Sequential(_, f, g) | Head::Pruning(_, f, g) = head {
+    if let Some((f, g)) = head.parts() {
         add_tree(text, f, depth.saturating_add(1))?;
         add_tree(text, g, depth.saturating_add(1))?;
     }
@@ -89,9 +90,9 @@ impl<'a> fmt::Display for Line<'a> {
             Head::Stop => write!(f, "stop"),
             Head::SiteCall { site, parameter } => {
                 let with = With(parameter);
-                match local_name(site) {
-                    Some(name) => write!(f, "site call {site}, {name}, {with}"),
-                    None => write!(f, "site call {site} {with}"),
+                match LocalSite::try_from(site) {
+                    Ok(name) => write!(f, "site call {site}, {name}, {with}"),
+                    Err(_) => write!(f, "site call {site} {with}"),
                 }
             }
             Head::DefinitionCall { number, parameter } => {
@@ -113,17 +114,6 @@ impl<'a> fmt::Display for Line<'a> {
                 "pending call of site {site} with value {value}, ticket {ticket}, since tick {clock}"
             ),
         }
-    }
-}
-
-// The name of a site that every controller has.
-fn local_name(site: u8) -> Option<&'static str> {
-    match site {
-        0 => Some("let"),
-        1 => Some("if"),
-        2 => Some("signal"),
-        3 => Some("rtimer"),
-        _ => None,
     }
 }
 

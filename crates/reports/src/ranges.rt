@@ -6,10 +6,9 @@ use sheets::row::Window;
 use std::fmt;
 
 // The latest age of a window without an end.
-const NO_END: u32 = 4_294_967_295;
+const NO_END: u32 = u32::MAX;
 
-// Milliseconds in a tick.
-const TICK: u8 = 10;
+const MILLIS_PER_TICK: u8 = 10;
 
 // A range, both ends included.
 #[derive(Clone, Copy)]
@@ -67,7 +66,7 @@ impl fmt::Display for Ages {
     }
 }
 
-// The ranges of a window, as a line of it shows them.
+// What a line of a window shows: its ages in ticks and in milliseconds, and its values.
 #[derive(Clone, Copy)]
 pub(crate) struct WindowRanges {
     pub(crate) ticks: Ages,
@@ -92,7 +91,7 @@ impl From<Window> for WindowRanges {
             millis: Ages {
                 earliest,
                 latest,
-                unit: TICK,
+                unit: MILLIS_PER_TICK,
             },
             values: Range::from((lowest, highest)),
         }

@@ -1,10 +1,11 @@
 // Reports, and the two kinds that judge bytes.
-ghost use Rattle.std.specs.Prelude.{◌≡◌, true, false, codes, IfOk, Err, string_bytes};
+ghost use Rattle.std.specs.Prelude.{◌≡◌, true, false, codes, IfOk, Some, Err, string_bytes};
 ghost use Rattle.reports.specs.Verdicts.{first_line, Begins};
 
 use crate::dump::bytes_around;
 use formats::fault::Fault;
 use std::alloc::{AllocError, Global};
+use std::fmt;
 use verdicts::reason::Reason;
 
 // A report: its text, and whether what it speaks of was accepted.
@@ -13,6 +14,15 @@ pub struct Report {
     pub text: String,
     // Kept: a flag, and not an enum of two texts. Either text is printed alike, and only an exit status asks for more.
     pub accepted: bool,
+}
+
+// Its text.
+impl fmt::Display for Report {
+    ghost output = { λ r. Some (string_bytes r.text) };
+
+    fn fmt<W: fmt::Write>(&self, f: &mut fmt::Formatter<W>) -> fmt::Result {
+        f.write_str(self.text.as_str())
+    }
 }
 
 impl Report {

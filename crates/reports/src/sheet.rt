@@ -1,5 +1,5 @@
 // The report of a sheet: a verdict, and then its rows and windows in a table, or what was expected and where.
-ghost use Rattle.std.specs.Prelude.{◌≡◌, false, is_ok, IfOk, Err, string_bytes};
+ghost use Rattle.std.specs.Prelude.{◌≡◌, ◌<◌, false, is_ok, length, IfOk, IfSome, Err, string_bytes};
 ghost use Rattle.sheets.specs.Format.{Outcome, SheetOutcome};
 ghost use Rattle.reports.specs.Verdicts.{first_line, Begins};
 
@@ -77,41 +77,57 @@ fn add_window(text: &mut String, number: usize, window: Window) -> Result<(), Al
     writeln!(text, "{number:>6}  {ticks:<24}  {millis:<26}  {values}")
 }
 
+// Where a row has its site and a window its latest tick, from the command's byte on.
+const SITE: usize = 1;
+
+const LATEST: usize = 5;
+
 // What was expected at the place of a fault.
 fn expected(bytes: &[u8], fault: Fault) -> &'static str {
     let place = fault.place();
     let start = command_at(bytes, place);
-    let in_window = bytes.get(start).is_some_and(|byte| matches!(
-        Command::try_from(*byte),
-        Ok(Command::Window)
-    ));
-    match (fault, in_window, place.saturating_sub(start)) {
-        (Fault::CutShort(_), _, _) => "the rest of a command: a row has 7 bytes, a window 13",
-        (Fault::UnknownCommand(_), _, _) => "command 10, a row, or command 11, a window",
-        (Fault::OperandBeyondRange(_), true, _) => "an earliest tick of at most 4294967294",
-        (Fault::OperandBeyondRange(_), false, 1) => "a site of 0 to 27",
-        (Fault::OperandBeyondRange(_), false, _) => "silence 0 or 1",
-        (Fault::WindowBeforeRow(_), _, _) => "a row first: a window belongs to the row before it",
-        (Fault::EmptyRow(_), _, _) => "silence 1 in this row, or a window after it",
-        (Fault::SecondBelowFirst(_), false, _) => "a last argument not below the first",
-        (Fault::SecondBelowFirst(_), true, 5) => "a latest tick not below the earliest",
-        (Fault::SecondBelowFirst(_), true, _) => "a highest value not below the lowest",
-        (Fault::TooMany(_), true, _) => "at most 4 windows in a row",
-        (Fault::TooMany(_), false, _) => "at most 64 rows",
-        (Fault::TooLong, _, _) => "at most 4096 bytes",
+    let operand = place.saturating_sub(start);
+    let command = bytes
+        .get(start)
+        .and_then(|byte| Command::try_from(*byte).ok());
+    match fault {
+        Fault::CutShort(_) => "the rest of a command: a row has 7 bytes, a window 13",
+        Fault::UnknownCommand(_) => "command 10, a row, or command 11, a window",
+        Fault::OperandBeyondRange(_) => match command {
+            Some(Command::Window) => "an earliest tick of at most 4294967294",
+            _ if operand == SITE => "a site of 0 to 27",
+            _ => "silence 0 or 1",
+        },
+        Fault::WindowBeforeRow(_) => "a row first: a window belongs to the row before it",
+        Fault::EmptyRow(_) => "silence 1 in this row, or a window after it",
+        Fault::SecondBelowFirst(_) => match command {
+            Some(Command::Window) if operand == LATEST => "a latest tick not below the earliest",
+            Some(Command::Window) => "a highest value not below the lowest",
+            _ => "a last argument not below the first",
+        },
+        Fault::TooMany(_) => match command {
+            Some(Command::Window) => "at most 4 windows in a row",
+            _ => "at most 64 rows",
+        },
+        Fault::TooLong => "at most 4096 bytes",
         _ => "another byte",
     }
 }
 
 // The offset of the command in which a place lies.
+// Kept: a loop. Of the items of `successors` no bound is known, and `last` asks for one.
 fn command_at(bytes: &[u8], place: usize) -> usize {
     let mut at = 0;
-    while at < bytes.len() {
-        let next = at.saturating_add(width(bytes[at]));
-        if next == at || next > place {
-            break;
-        }
+    while let Some(next) = next_command(bytes, at).filter(|next| *next <= place) {
         at = next;
     }
     at
+}
+
+// The offset behind the command at an offset, if there is one.
+fn next_command(bytes: &[u8], at: usize) -> Option<usize>
+    ensures { IfSome result (λ next. (at < length bytes.now) × (at < next)) }
+{
+    let width = width(*bytes.get(at)?);
+    (width > 0).then(|| at.saturating_add(width))
 }

@@ -145,6 +145,7 @@ fn show_long(rt: &HostRuntime) -> anyhow::Result<()> {
 }
 
 // A call to draw.
+// Kept: this and the next. With them, each call and publication of the cases is a line, as in a table.
 fn lane(ticket: u32, site: u8, value: u16, from: u32, end: Ending) -> Lane {
     Lane {
         ticket,

@@ -2,16 +2,21 @@
 ghost use Rattle.std.specs.Prelude.{Some};
 ghost use Rattle.scripts.specs.Faults.{message};
 
+use std::error::Error;
 use std::fmt;
 
-// The first word names no call, a number is missing, a word that should be a number has another character than a digit, a
-// number is above the largest that can stand there, or words are left over.
+// Why a line says no call.
 #[derive(Clone, Copy, PartialEq, Eq, Debug)]
 pub enum LineFault {
+    // Its first word is that of no call.
     UnknownWord,
+    // It ends where a number should stand.
     NumberMissing,
+    // A word that should be a number has another character than a digit.
     NotANumber,
+    // A number is above the largest that can stand in its place, which is this one.
     TooLarge(u32),
+    // Words stand behind its last number.
     WordsLeft,
 }
 
@@ -31,3 +36,5 @@ impl fmt::Display for LineFault {
         }
     }
 }
+
+impl Error for LineFault {}

@@ -48,10 +48,7 @@ impl Operand for u16 {
 pub(crate) fn next_number<T: Operand>(words: &mut SplitAsciiWhitespace<'_>) -> Result<T, LineFault>
     ensures { MatchResult result (λ n. (ms : List ℕ) → operands (T.MOST ∷ ms) (words_left words.old) ≡ followed_by (T.value n) (operands ms (words_left words.new))) (λ f. (ms : List ℕ) → operands (T.MOST ∷ ms) (words_left words.old) ≡ Err f) }
 {
-    let Some(word) = words.next() else {
-        return Err(LineFault::NumberMissing);
-    };
-    number(word)
+    number(words.next().ok_or(LineFault::NumberMissing)?)
 }
 
 // The number that the only word left writes.

@@ -30,7 +30,7 @@ fn many(heap: Global, rows: usize, windows: usize) -> Result<Vec<u8>, AllocError
 }
 
 // What comes of a sheet that is given in parts.
-// Kept: `file_cases` prints the same line of a file. A crate for this one match would be longer than the match.
+// Kept: `file_cases` prints such a line of a file. They are two lines in two programs, and no third needs them.
 fn show(rt: &HostRuntime, name: &str, parts: &[&[u8]]) -> io::Result<()> {
     let bytes = parts.concat(rt.alloc())?;
     let length = bytes.len();
@@ -158,8 +158,7 @@ fn reports(rt: &HostRuntime) -> io::Result<()> {
         &[],
     ] {
         let report = sheet_report(heap, bytes)?;
-        let text = report.text.as_str();
-        print!(rt; "----\n{text}")?;
+        print!(rt; "----\n{report}")?;
     }
     Ok(())
 }

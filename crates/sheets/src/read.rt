@@ -5,11 +5,14 @@ ghost use Rattle.sheets.specs.Format.{row_at, row_rules, window_at, window_rules
 ghost use Rattle.sheets.specs.Rows.{row_of, rows_of, window_of, newest_first};
 
 use crate::command::Command;
-use crate::row::{MOST_ROWS, MOST_WINDOWS, Row, Window, no_rows};
+use crate::row::{MOST_ROWS, Row, Window, no_rows};
 use fixed::list::FixedList;
 use formats::fault::Fault;
 use formats::operands::read;
 use formats::widths::width;
+
+// How many bytes the command of a row has.
+const ROW_WIDTH: usize = 7;
 
 // The limits of a sheet, beside those of its rows and windows.
 const LONGEST: usize = 4096;
@@ -94,13 +97,15 @@ impl Place<'_> {
         ensures { CommandOutcome self.now.bytes.now self.now.at (newest_first rows.old) (newest_first rows.new) result }
     {
         if !newest_done(rows) {
-            return Err(Fault::EmptyRow(self.at - 7));
+            return Err(Fault::EmptyRow(self.at - ROW_WIDTH));
         }
-        if rows.len() >= MOST_ROWS {
+        if rows.is_full() {
             return Err(Fault::TooMany(self.at));
         }
         let row = self.row()?;
-        rows.push(row).map_err(|_| Fault::TooMany(self.at))?;
+        let Ok(()) = rows.push(row) else {
+            unreachable!()
+        };
         Ok(())
     }
 
@@ -109,13 +114,13 @@ impl Place<'_> {
         ensures { CommandOutcome self.now.bytes.now self.now.at (newest_first rows.old) (newest_first rows.new) result }
     {
         let mut row = rows.last().ok_or(Fault::WindowBeforeRow(self.at))?;
-        if row.windows.len() >= MOST_WINDOWS {
+        if row.windows.is_full() {
             return Err(Fault::TooMany(self.at));
         }
         let window = self.window()?;
-        row.windows
-            .push(window)
-            .map_err(|_| Fault::TooMany(self.at))?;
+        let Ok(()) = row.windows.push(window) else {
+            unreachable!()
+        };
         rows.replace_last(row);
         Ok(())
     }
@@ -146,13 +151,14 @@ pub(crate) fn read_rows(bytes: &[u8]) -> Result<FixedList<Row, MOST_ROWS>, Fault
     }
     let mut rows = no_rows();
     let mut at = 0;
-    // Kept: how far the next command stands off is read from the bytes, so no iterator of the library makes these steps.
+    // Kept: a loop with an offset. How far the next command stands is read from the bytes, and an iterator that makes these
+    // steps would be longer.
     while at < bytes.len() {
         Place { bytes, at }.read(&mut rows)?;
         at += width(bytes[at]);
     }
     if !newest_done(&rows) {
-        return Err(Fault::EmptyRow(at - 7));
+        return Err(Fault::EmptyRow(at - ROW_WIDTH));
     }
     Ok(rows)
 }

@@ -4,12 +4,14 @@ ghost use Rattle.sheets.specs.Rows.{row_of, rows_of, window_of};
 
 use fixed::list::FixedList;
 
-// The limits of a sheet.
+// How many rows a sheet can have.
 pub(crate) const MOST_ROWS: usize = 64;
 
+// How many windows a row can have.
 pub(crate) const MOST_WINDOWS: usize = 4;
 
-// One chance of a reply: ages in ticks and values, all four ends included.
+// One chance of a reply: ages in ticks and values, all four ends included. A latest age of 4,294,967,295 means no end.
+// Kept: a number for no end, as the sheet has it. It is not below any earliest age, so ages stay in order.
 #[derive(Clone, Copy, PartialEq, Eq, Default, Debug)]
 pub struct Window {
     pub earliest: u32,

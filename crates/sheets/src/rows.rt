@@ -8,7 +8,7 @@ use crate::row::{MOST_ROWS, Row, no_rows};
 use fixed::list::FixedList;
 use formats::fault::Fault;
 
-// They keep every rule of the format.
+// Rows that keep every rule of the format.
 #[derive(Clone, Copy)]
 pub struct Rows {
     pub(crate) list: FixedList<Row, MOST_ROWS>,

@@ -23,7 +23,7 @@ CallOutcome ds t k bs p r = MatchOption r
 abbrev pub ReplyOutcome : List ℕ → ℕ → ℕ → Option Stretch → Option Reply → Type 0
 ReplyOutcome bs p w frame r = MatchOption r
     ((a : Act) (q : Option Stretch) (bs' : List ℕ) → Replied bs p w frame a q bs' → capacity < length bs')
-    (λ s. Replied bs p w frame (act_of s.act) s.pruned (content s.form))
+    (λ s. Replied bs p w frame (act_of s.step.act) s.pruned (content s.step.form))
 
 -- what the frame around a call is read as
 abbrev pub around : Framed → Expression

@@ -22,6 +22,7 @@ fn form_at<'a>(form: Form<'a>, place: usize) -> Option<Form<'a>>
 }
 
 // Makes the site call with a value at a place of a form: it becomes a pending call.
+// Kept: `ok()`, here and in the other transitions. Their callers prove that none is missing, so none asks why one is.
 fn call_site(form: Form, place: usize, call: Pending) -> Option<Step>
     requires { site_call call.site (value_of call.value) ≡ expression_of (drop place form.bytes.now) }
     ensures { (ds : List Defined) → CallOutcome ds call.clock call.ticket form.entry.bytes.now place result }
@@ -37,6 +38,8 @@ fn call_site(form: Form, place: usize, call: Pending) -> Option<Step>
 
 // Makes the definition call with a value at a place of a form, if the definition is there: it becomes the definition's body
 // with the value for its formal.
+// Kept: a form and a place apart, here and in the other transitions. Nothing holds of a place alone; that a whole command
+// stands there is the type of a `Section`.
 fn unfold(form: Form, place: usize, contents: Contents, number: u8, value: u16) -> Option<Step>
     requires { definition_call number (value_of value) ≡ expression_of (drop place form.bytes.now) }
     ensures { (t k : ℕ) → CallOutcome (file_of contents.entry.bytes.now).definitions t k form.entry.bytes.now place result }

@@ -10,6 +10,7 @@ use crate::framed::{Beside, Framed};
 use crate::instance::Instance;
 use crate::reply::Reply;
 use crate::section::Section;
+use crate::step::Step;
 use events::act::Act;
 use forms::command::Command;
 use forms::form::{Form, Head};
@@ -22,9 +23,9 @@ fn publish(form: Form, place: usize, value: u16) -> Option<Reply>
 {
     let call = Section::of_command(form, place, Command::Pending)?;
     let form = call.replaced([Command::Stop as u8]).ok()?;
+    let act = Act::Out(value);
     Some(Reply {
-        act: Act::Out(value),
-        form,
+        step: Step { act, form },
         pruned: None,
     })
 }
@@ -35,9 +36,9 @@ fn spawn(call: Framed, copy: Instance) -> Option<Reply>
     ensures { (f : Expression) → sequential_of copy.entry.variable f (expression copy.entry.form) ≡ around call.entry → FramedOutcome call.entry copy.entry.value result }
 {
     let form = call.frame.replaced(Beside { call, copy }).ok()?;
+    let act = Act::Inner;
     Some(Reply {
-        act: Act::Inner,
-        form,
+        step: Step { act, form },
         pruned: None,
     })
 }
@@ -54,9 +55,9 @@ fn bind(call: Framed, left: Instance, right: Form) -> Option<Reply>
         at: end - right.as_bytes().len(),
         end,
     };
+    let act = Act::Inner;
     Some(Reply {
-        act: Act::Inner,
-        form,
+        step: Step { act, form },
         pruned: Some(pruned),
     })
 }

@@ -1,4 +1,4 @@
-// What making a due call makes of a form.
+// What a transition makes of a form.
 use events::act::Act;
 use walks::buffer::Buffer;
 

@@ -1,10 +1,22 @@
 -- The size of a form, by its head and its parts.
 use Rattle.std.proofs.Common.{◌≡◌, ◌+◌, ◌<◌, ◌++◌, length, sym, refl, ap, ◌∙◌, arith, length-append}
 use Rattle.orc.specs.Expressions.{Expression, stop, site_call, definition_call, parallel, sequential, pruning, pending, bytes, size}
-use Rattle.forms.specs.Heads.{expression, headed}
+use Rattle.formats.specs.Widths.{width_of}
+use Rattle.forms.specs.Commands.{byte_of}
+use Rattle.forms.specs.Heads.{expression, headed, command_of}
 use Rattle.forms.specs.declared.form.Head.{Head}
 use Rattle.forms.specs.declared.form.Head.TheVariants.{Stop, SiteCall, DefinitionCall, Parallel, Sequential, Pruning, Pending}
-use Rattle.walks.specs.Rooms.{head_size}
+use Rattle.walks.specs.Rooms.{own_width, head_size}
+
+-- the width of a head's command, by the table of widths
+pub width_by_head : (h : Head) → width_of (byte_of (command_of h)) ≡ own_width h
+width_by_head Stop = refl
+width_by_head (SiteCall s p) = refl
+width_by_head (DefinitionCall i p) = refl
+width_by_head (Parallel f g) = refl
+width_by_head (Sequential x f g) = refl
+width_by_head (Pruning x f g) = refl
+width_by_head (Pending p) = refl
 
 size_parts : (f g : Expression) → length (bytes f ++ bytes g) ≡ size f + size g
 size_parts f g = length-append (bytes f) (bytes g)

@@ -11,9 +11,13 @@ Buffer = FixedList ℕ capacity
 abbrev pub content : Buffer → List ℕ
 content b = items_of b
 
+-- There is room for n more bytes.
+abbrev pub HasRoom : Buffer → ℕ → Type 0
+HasRoom b n = length (content b) + n ≤ capacity
+
 -- There was room for n more bytes, and w, of at most n bytes, was written behind what the buffer held.
 pub record Written (before after : Buffer) (n : ℕ) (w : List ℕ) : Type 0 where
-  pub room : length (content before) + n ≤ capacity
+  pub room : HasRoom before n
   pub written : content after ≡ content before ++ w
   pub within : length (content after) ≤ length (content before) + n
 

@@ -1,7 +1,7 @@
 -- What a head and its parts take up in a form. Assumes nothing.
 use Rattle.std.specs.Prelude.{ℕ, ◌+◌, Some, None, Option}
 use Rattle.orc.specs.Expressions.{size}
-use Rattle.forms.specs.Heads.{expression}
+use Rattle.forms.specs.Heads.{expression, parts_of}
 use Rattle.forms.specs.declared.form.Form.{Form}
 use Rattle.forms.specs.declared.form.Head.{Head}
 use Rattle.forms.specs.declared.form.Head.TheVariants.{Stop, SiteCall, DefinitionCall, Parallel, Sequential, Pruning, Pending}
@@ -15,16 +15,6 @@ own_width (Parallel f g) = 1
 own_width (Sequential x f g) = 2
 own_width (Pruning x f g) = 2
 own_width (Pending p) = 12
-
--- the parts of a head, if it has any
-abbrev pub parts_of : Head → Option (Form × Form)
-parts_of Stop = None
-parts_of (SiteCall s p) = None
-parts_of (DefinitionCall i p) = None
-parts_of (Parallel f g) = Some (f, g)
-parts_of (Sequential x f g) = Some (f, g)
-parts_of (Pruning x f g) = Some (f, g)
-parts_of (Pending p) = None
 
 abbrev pub parts_size : Option (Form × Form) → ℕ
 parts_size None = 0

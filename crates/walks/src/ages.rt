@@ -19,6 +19,7 @@ fn reaches(ticks: (u32, u32), since: u32, tick: u64) -> bool
 }
 
 // Whether a window with these ticks and values admits a reply at a tick.
+// Kept: five numbers, in the pairs that a host tells. A struct would be filled at the one call and read once.
 fn admits(ticks: (u32, u32), values: (u16, u16), since: u32, tick: u64, reply: u16) -> bool
     ensures { result ≡ admits since tick reply (window_of ticks values) }
 {
@@ -38,6 +39,7 @@ fn window_reaches<H: Host>(host: &H, call: Pending, number: usize, tick: u64) ->
 }
 
 // Whether the window of a number, if there is one, admits a reply at a tick.
+// Kept: beside `window_reaches`, which asks the host for no values.
 fn window_admits<H: Host>(host: &H, call: Pending, number: usize, tick: u64, reply: u16) -> bool
     ensures { result ≡ passes_at (admits call.clock tick reply) (handle (H.Host.meaning host.now) call.site call.value).windows number }
 {
@@ -47,6 +49,7 @@ fn window_admits<H: Host>(host: &H, call: Pending, number: usize, tick: u64, rep
 }
 
 // Whether some window of a call reaches a tick.
+// Kept: beside `can_reply`, each one line. A function over both would take a test of a number, which each would still build.
 pub fn within_reach<H: Host>(host: &H, call: Pending, tick: u64) -> bool
     ensures { result ≡ within_reach (handle (H.Host.meaning host.now) call.site call.value) call.clock tick }
 {

@@ -1,7 +1,6 @@
 // Fixed memory for a form under construction.
 ghost use Rattle.std.specs.Prelude.{◌≡◌, ◌+◌, ◌≤◌, ◌++◌, length};
-ghost use Rattle.walks.specs.Capacity.{capacity};
-ghost use Rattle.walks.specs.Contents.{content};
+ghost use Rattle.walks.specs.Contents.{content, HasRoom};
 
 use fixed::list::FixedList;
 
@@ -12,8 +11,9 @@ pub const CAPACITY: usize = 8208;
 pub type Buffer = FixedList<u8, CAPACITY>;
 
 // Adds bytes for which there is room.
+// Kept: a function of its own, which states that there is room; the public `extend_from_slice` asks for nothing.
 pub(crate) fn add(out: &mut Buffer, bytes: &[u8])
-    requires { length (content out.old) + length bytes.now ≤ capacity }
+    requires { HasRoom out.old (length bytes.now) }
     ensures content { content out.new ≡ content out.old ++ bytes.now }
     ensures len { length (content out.new) ≡ length (content out.old) + length bytes.now }
 {

@@ -3,14 +3,13 @@ ghost use Rattle.std.specs.Prelude.{◌≡◌, ◌+◌, ◌≤◌, ◌++◌, len
 ghost use Rattle.orc.specs.Expressions.{bytes as form_bytes, size};
 ghost use Rattle.orc.specs.Variables.{substitute};
 ghost use Rattle.forms.specs.Heads.{expression, parameter_of};
-ghost use Rattle.walks.specs.Capacity.{capacity};
-ghost use Rattle.walks.specs.Contents.{content, Writes};
+ghost use Rattle.walks.specs.Contents.{content, HasRoom, Writes};
 ghost use Rattle.walks.specs.Changes.{changed, changed_parameter, unless_bound};
 
 use crate::buffer::{Buffer, add};
 use crate::change::Change;
 use crate::heads::put_call;
-use crate::rooms::{has_room, head_of};
+use crate::rooms::{check_room, head_of};
 use fixed::full::Full;
 use forms::command::Command;
 use forms::form::{Form, Head, Parameter};
@@ -36,7 +35,7 @@ fn changed_parameter(change: Option<Change>, parameter: Parameter) -> Parameter
 
 // Writes a form for which there is room, with a change or none.
 pub(crate) fn put(out: &mut Buffer, form: Form, change: Option<Change>)
-    requires { length (content out.old) + size (expression form) ≤ capacity }
+    requires { HasRoom out.old (size (expression form)) }
     ensures content { content out.new ≡ content out.old ++ form_bytes (changed change (expression form.entry)) }
     ensures len { length (content out.new) ≡ length (content out.old) + size (expression form.entry) }
 {
@@ -77,9 +76,7 @@ pub(crate) fn put(out: &mut Buffer, form: Form, change: Option<Change>)
 fn put_if_room(out: &mut Buffer, form: Form, change: Option<Change>) -> Result<(), Full>
     ensures { Writes out.old out.new result (size (expression form.entry)) (form_bytes (changed change (expression form.entry))) }
 {
-    if !has_room(out, form) {
-        return Err(Full);
-    }
+    check_room(out, form)?;
     put(out, form, change);
     Ok(())
 }

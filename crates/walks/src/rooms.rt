@@ -1,34 +1,20 @@
 // How much room a form takes once it is written.
-ghost use Rattle.std.specs.Prelude.{◌≡◌, ◌+◌, ◌<◌, length, MatchOption, nat_le};
+ghost use Rattle.std.specs.Prelude.{◌≡◌, ◌+◌, ◌<◌, length, MatchOption, MatchResult};
 ghost use Rattle.orc.specs.Expressions.{size};
 ghost use Rattle.forms.specs.Heads.{expression, headed, Longer};
 ghost use Rattle.walks.specs.Capacity.{capacity};
-ghost use Rattle.walks.specs.Contents.{content};
-ghost use Rattle.walks.specs.Rooms.{own_width, parts_of, head_size};
+ghost use Rattle.walks.specs.Contents.{content, HasRoom};
+ghost use Rattle.walks.specs.Rooms.{own_width, head_size};
 
 use crate::buffer::{Buffer, CAPACITY};
+use fixed::full::Full;
 use forms::form::{Form, Head};
 
 // The width of a head's command with its operands.
 fn own_width(head: Head) -> usize
     ensures { result ≡ own_width head.entry }
 {
-    match head {
-        Head::Stop | Head::Parallel(..) => 1,
-        Head::Sequential(..) | Head::Pruning(..) => 2,
-        Head::SiteCall { .. } | Head::DefinitionCall { .. } => 5,
-        Head::Pending(_) => 12,
-    }
-}
-
-// The parts of a head, if it has any.
-fn parts_of<'a>(head: Head<'a>) -> Option<(Form<'a>, Form<'a>)>
-    ensures { result ≡ parts_of head.entry }
-{
-    match head {
-        Head::Parallel(f, g) | Head::Sequential(_, f, g) | Head::Pruning(_, f, g) => Some((f, g)),
-        _ => None,
-    }
+    head.command().width()
 }
 
 // The head of a form, with the size of the whole.
@@ -46,16 +32,17 @@ fn room_behind(form: Form, room: usize) -> Option<usize>
 {
     let head = head_of(form);
     let room = room.checked_sub(own_width(head))?;
-    let Some((f, g)) = parts_of(head) else {
+    let Some((f, g)) = head.parts() else {
         return Some(room);
     };
     let room = room_behind(f, room)?;
     room_behind(g, room)
 }
 
-// Whether a form can be written behind what a buffer holds.
-pub(crate) fn has_room(out: &Buffer, form: Form) -> bool
-    ensures { result ≡ nat_le (length (content out.now) + size (expression form.entry)) capacity }
+// Refuses a form that cannot be written behind what a buffer holds.
+pub(crate) fn check_room(out: &Buffer, form: Form) -> Result<(), Full>
+    ensures { MatchResult result (λ _. HasRoom out.now (size (expression form.entry))) (λ _. capacity < length (content out.now) + size (expression form.entry)) }
 {
-    room_behind(form, CAPACITY - out.len()).is_some()
+    room_behind(form, CAPACITY - out.len()).ok_or(Full)?;
+    Ok(())
 }

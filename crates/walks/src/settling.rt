@@ -5,14 +5,13 @@ ghost use Rattle.orc.specs.Expressions.{Expression, parallel, pruning, bytes as 
 ghost use Rattle.orc.specs.Simplified.{is_stop, parallel_of, pruning_of, simplified};
 ghost use Rattle.orc.specs.Calls.{lapsed};
 ghost use Rattle.forms.specs.Heads.{expression};
-ghost use Rattle.walks.specs.Capacity.{capacity};
-ghost use Rattle.walks.specs.Contents.{content, Writes};
+ghost use Rattle.walks.specs.Contents.{content, HasRoom, Writes};
 
 use crate::ages::within_reach;
 use crate::buffer::{Buffer, add};
 use crate::copies::put;
 use crate::endless::Endless;
-use crate::rooms::{has_room, head_of};
+use crate::rooms::{check_room, head_of};
 use fixed::full::Full;
 use forms::command::Command;
 use forms::form::{Form, Head};
@@ -44,10 +43,11 @@ fn close_parallel(out: &mut Buffer, start: usize, middle: usize)
     ensures within { (start < length (content out.new)) × (length (content out.new) ≤ length (content out.old)) }
 {
     if stops_from(out, middle) {
-        keep_part(out, start, start + 1, middle);
+        keep_part(out, start, start + Command::Parallel.width(), middle);
     }
 }
 
+// Kept: beside `close_parallel`, not one function with it. Only here the left part is asked about its variable.
 // Simplifies the pruning that stands last in a buffer, likewise: with a stop on the right it becomes its left part, if its
 // variable is not free there.
 fn close_pruning(out: &mut Buffer, variable: u8, start: usize, middle: usize)
@@ -58,15 +58,16 @@ fn close_pruning(out: &mut Buffer, variable: u8, start: usize, middle: usize)
     if !stops_from(out, middle) {
         return;
     }
-    let left = Form::new(&out.as_slice()[start + 2..middle]);
+    let from = start + Command::Pruning.width();
+    let left = Form::new(&out.as_slice()[from..middle]);
     if !left.is_free(variable) {
-        keep_part(out, start, start + 2, middle);
+        keep_part(out, start, from, middle);
     }
 }
 
 // Writes a form for which there is room, lapsed at a tick and simplified.
 fn settle<H: Host>(out: &mut Buffer, host: &H, form: Form, tick: u64)
-    requires { length (content out.old) + size (expression form) ≤ capacity }
+    requires { HasRoom out.old (size (expression form)) }
     ensures content { content out.new ≡ content out.old ++ form_bytes (simplified (lapsed (H.Host.meaning host.now) tick (expression form.entry))) }
     ensures within { (length (content out.old) < length (content out.new)) × (length (content out.new) ≤ length (content out.old) + size (expression form.entry)) }
 {
@@ -76,7 +77,7 @@ fn settle<H: Host>(out: &mut Buffer, host: &H, form: Form, tick: u64)
         Head::Parallel(f, g) => {
             add(out, &[Command::Parallel as u8]);
             settle(out, host, f, tick);
-            if stops_from(out, start + 1) {
+            if stops_from(out, start + Command::Parallel.width()) {
                 out.truncate(start);
                 settle(out, host, g, tick);
                 return;
@@ -88,7 +89,7 @@ fn settle<H: Host>(out: &mut Buffer, host: &H, form: Form, tick: u64)
         Head::Sequential(x, f, g) => {
             add(out, &[Command::Sequential as u8, x]);
             settle(out, host, f, tick);
-            if stops_from(out, start + 2) {
+            if stops_from(out, start + Command::Sequential.width()) {
                 out.truncate(start);
                 add(out, &[Command::Stop as u8]);
                 return;
@@ -119,9 +120,7 @@ fn settle<H: Host>(out: &mut Buffer, host: &H, form: Form, tick: u64)
 pub fn settle_into<H: Host>(host: &H, form: Form, tick: u64, out: &mut Buffer) -> Result<(), Full>
     ensures { Writes out.old out.new result (size (expression form.entry)) (form_bytes (simplified (lapsed (H.Host.meaning host.now) tick (expression form.entry)))) }
 {
-    if !has_room(out, form) {
-        return Err(Full);
-    }
+    check_room(out, form)?;
     settle(out, host, form, tick);
     Ok(())
 }

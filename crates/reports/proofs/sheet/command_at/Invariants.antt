@@ -2,5 +2,5 @@ use Rattle.std.proofs.Common.{◌-◌, length}
 use Rattle.reports.proofs.sheet.command_at.Given as goal
 
 -- the bytes behind the command
-abbrev pub decreases-loop-at : goal.decreases-loop-at
-decreases-loop-at l = length l.bytes - l.at
+abbrev pub decreases-loop-next : goal.decreases-loop-next
+decreases-loop-next l = length l.bytes - l.at

@@ -11,7 +11,7 @@ returns-then-stops_from c = record {
   content = λ o f g a b left is.
       let l = content c.args.out.now in
       let stops = c.if-stops_from.ensures (o ++ (3 ∷ bytes f)) g (length-append o (3 ∷ bytes f) ∙ omega arith) (right_last l o (3 ∷ []) (bytes f) (bytes g) is) in
-      c.keep_part.ensures.content ∙ left_kept l o (3 ∷ []) (bytes f) (bytes g) is c.args.start (c.args.start + 1) c.args.middle a (omega arith) (omega arith) ∙ ap (λ e. o ++ bytes e) (parallel_right_stop f g left stops);
+      c.keep_part.ensures.content ∙ left_kept l o (3 ∷ []) (bytes f) (bytes g) is c.args.start (c.args.start + c.width.result) c.args.middle a (omega (arith, c.width.ensures)) (omega (arith, c.width.ensures)) ∙ ap (λ e. o ++ bytes e) (parallel_right_stop f g left stops);
   within = search rules;
 }
 

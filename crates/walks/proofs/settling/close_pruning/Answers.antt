@@ -27,9 +27,9 @@ returns-then-not-is_free c = record {
       let l = content c.args.out.now in
       let x = c.args.variable in
       let stops = c.if-not-stops_from.ensures (o ++ (5 ∷ x ∷ bytes f)) g (length-append o (5 ∷ x ∷ bytes f) ∙ omega arith) (right_last l o (5 ∷ x ∷ []) (bytes f) (bytes g) is) in
-      let left = left_there l o (5 ∷ x ∷ []) (bytes f) (bytes g) is c.args.start (c.args.start + 2) c.args.middle a (omega arith) (omega arith) in
-      let unbound = c.if-not-is_free.ensures ∙ ap (λ l. free x (expression_of l)) (c.new-left.ensures ∙ ap (between (c.args.start + 2) c.args.middle) c.as_slice.ensures ∙ left) ∙ ap (free x) (read_back f) in
-      c.keep_part.ensures.content ∙ left_kept l o (5 ∷ x ∷ []) (bytes f) (bytes g) is c.args.start (c.args.start + 2) c.args.middle a (omega arith) (omega arith) ∙ ap (λ e. o ++ bytes e) (pruning_right_stop x f g stops unbound);
+      let left = left_there l o (5 ∷ x ∷ []) (bytes f) (bytes g) is c.args.start (c.args.start + c.width.result) c.args.middle a (omega (arith, c.width.ensures)) (omega (arith, c.width.ensures)) in
+      let unbound = c.if-not-is_free.ensures ∙ ap (λ l. free x (expression_of l)) (c.new-left.ensures ∙ ap (between (c.args.start + c.width.result) c.args.middle) c.as_slice.ensures ∙ left) ∙ ap (free x) (read_back f) in
+      c.keep_part.ensures.content ∙ left_kept l o (5 ∷ x ∷ []) (bytes f) (bytes g) is c.args.start (c.args.start + c.width.result) c.args.middle a (omega (arith, c.width.ensures)) (omega (arith, c.width.ensures)) ∙ ap (λ e. o ++ bytes e) (pruning_right_stop x f g stops unbound);
   within = search rules;
 }
 
@@ -39,8 +39,8 @@ returns-else-not-is_free c = record {
   content = λ o f g a b is.
       let l = content c.args.out.now in
       let x = c.args.variable in
-      let left = left_there l o (5 ∷ x ∷ []) (bytes f) (bytes g) is c.args.start (c.args.start + 2) c.args.middle a (omega arith) (omega arith) in
-      let bound = c.if-not-is_free.ensures ∙ ap (λ l. free x (expression_of l)) (c.new-left.ensures ∙ ap (between (c.args.start + 2) c.args.middle) c.as_slice.ensures ∙ left) ∙ ap (free x) (read_back f) in
+      let left = left_there l o (5 ∷ x ∷ []) (bytes f) (bytes g) is c.args.start (c.args.start + c.width.result) c.args.middle a (omega (arith, c.width.ensures)) (omega (arith, c.width.ensures)) in
+      let bound = c.if-not-is_free.ensures ∙ ap (λ l. free x (expression_of l)) (c.new-left.ensures ∙ ap (between (c.args.start + c.width.result) c.args.middle) c.as_slice.ensures ∙ left) ∙ ap (free x) (read_back f) in
       is ∙ ap (λ e. o ++ bytes e) (pruning_bound x f g bound);
   within = search rules;
 }

@@ -18,8 +18,8 @@ returns-in_err-file c =
 pub returns-in_default : goal.returns-in_default
 returns-in_default c = none_due c.args.self.now (ap is_some c.in_ok-file.ensures) c.args.n c.new-form.result.bytes.now (c.new-form.ensures ∙ c.as_slice.ensures) c.due_count.result c.in_default.ensures.found c.due_count.ensures.count
 
-pub returns-then-len-ge-LONGEST : goal.returns-then-len-ge-LONGEST
-returns-then-len-ge-LONGEST c = go_full c.args.self.now (ap is_some c.in_ok-file.ensures) c.args.n c.new-form.result.bytes.now (c.new-form.ensures ∙ c.as_slice.ensures) c.in-Some.place c.in-Some.ensures.place (omega (arith, c.len.ensures.count, event_count c.args.self.now.events))
+pub returns-then-is_full : goal.returns-then-is_full
+returns-then-is_full c = go_full c.args.self.now (ap is_some c.in_ok-file.ensures) c.args.n c.new-form.result.bytes.now (c.new-form.ensures ∙ c.as_slice.ensures) c.in-Some.place c.in-Some.ensures.place (omega (arith, c.if-is_full.ensures, event_count c.args.self.now.events))
 
 pub unreachable-requires : goal.unreachable-requires
 unreachable-requires c =
@@ -28,4 +28,4 @@ unreachable-requires c =
 pub returns : goal.returns
 returns c =
     let step = c.in-Some-make_call.step in
-    go_move c.args.self.now (ap is_some c.in_ok-file.ensures) c.args.n c.new-form.result.bytes.now (c.new-form.ensures ∙ c.as_slice.ensures) c.in-Some.place c.in-Some.ensures.place c.in_ok-file.file.now c.in_ok-file.ensures c.new-contents.result.bytes.now (c.new-contents.ensures ∙ c.as_slice-2.ensures) (act_of step.act) (content step.form) (omega (arith, c.len.ensures.count, event_count c.args.self.now.events)) c.in-Some-make_call.ensures
+    go_move c.args.self.now (ap is_some c.in_ok-file.ensures) c.args.n c.new-form.result.bytes.now (c.new-form.ensures ∙ c.as_slice.ensures) c.in-Some.place c.in-Some.ensures.place c.in_ok-file.file.now c.in_ok-file.ensures c.new-contents.result.bytes.now (c.new-contents.ensures ∙ c.as_slice-2.ensures) (act_of step.act) (content step.form) (omega (arith, c.if-is_full.ensures, event_count c.args.self.now.events)) c.in-Some-make_call.ensures

@@ -22,7 +22,7 @@ count_lapsed-requires g c =
     let host = c.args.host.now in
     record {
       form = c.requires.1.move.form;
-      room = room_lapsed (g.H.Host.meaning host) (g.H.Host.laws host) c.args.self.now c.requires.0 (act_of c.args.step.now.act) (content c.args.step.now.form) (content c.args.form.now) c.requires.1 c.count_called.new.table c.count_called.ensures.counted;
+      room = room_lapsed (g.H.Host.meaning host) (g.H.Host.laws host) c.args.self.now c.requires.0 (act_of c.args.step.now.act) (content c.args.step.now.form) (content c.args.form.now) c.requires.1 c.count_called.new.self c.count_called.ensures.counted;
     }
 
 pub record-requires : goal.record-requires
@@ -36,9 +36,9 @@ invariant_of-self g c =
     let bs = content c.args.step.now.form in
     let bs' = content c.args.form.now in
     let it =
-    given p.file p.clock c.args.form.now (p.issued + c.count_called.result) c.«record».new.events c.count_lapsed.new.table
-    (gone_state m (g.H.Host.laws host) p c.requires.0 (act_of c.args.step.now.act) bs bs' c.requires.1 c.count_called.new.table c.count_called.ensures.counted
-    c.args.form.now c.count_called.result c.«record».new.events c.count_lapsed.new.table c.count_lapsed.ensures (c.count_called.ensures.many p.clock (suc p.issued)) c.«record».ensures refl)
+    given p.file p.clock c.args.form.now (p.issued + c.count_called.result) c.«record».new.events c.count_lapsed.new.self
+    (gone_state m (g.H.Host.laws host) p c.requires.0 (act_of c.args.step.now.act) bs bs' c.requires.1 c.count_called.new.self c.count_called.ensures.counted
+    c.args.form.now c.count_called.result c.«record».new.events c.count_lapsed.new.self c.count_lapsed.ensures (c.count_called.ensures.many p.clock (suc p.issued)) c.«record».ensures refl)
     (kept_after m (g.H.Host.laws host) p (Go c.requires.0) (act_of c.args.step.now.act) [] bs bs' c.requires.1)
     p.whole_file (moved_form m (g.H.Host.laws host) p (Go c.requires.0) (act_of c.args.step.now.act) [] bs bs' c.requires.1 c.args.form.now refl) in
     record { whole_file = it.0; whole_form = it.1; formals = it.2; bodies = it.3; fits = it.4 }
@@ -47,5 +47,5 @@ pub returns : goal.returns
 returns g c =
     let host = c.args.host.now in
     let p = c.args.self.now in
-    gone_state (g.H.Host.meaning host) (g.H.Host.laws host) p c.requires.0 (act_of c.args.step.now.act) (content c.args.step.now.form) (content c.args.form.now) c.requires.1 c.count_called.new.table c.count_called.ensures.counted
-    c.args.form.now c.count_called.result c.«record».new.events c.count_lapsed.new.table c.count_lapsed.ensures (c.count_called.ensures.many p.clock (suc p.issued)) c.«record».ensures refl
+    gone_state (g.H.Host.meaning host) (g.H.Host.laws host) p c.requires.0 (act_of c.args.step.now.act) (content c.args.step.now.form) (content c.args.form.now) c.requires.1 c.count_called.new.self c.count_called.ensures.counted
+    c.args.form.now c.count_called.result c.«record».new.events c.count_lapsed.new.self c.count_lapsed.ensures (c.count_called.ensures.many p.clock (suc p.issued)) c.«record».ensures refl

@@ -6,8 +6,10 @@ use Rattle.runs.specs.Outcomes.{Outcome, Refuses, refuses, is_not_loaded, is_not
 use Rattle.events.specs.Acts.{act_of}
 use Rattle.steps.specs.Laws.{withdrawn_with}
 use Rattle.engine.specs.Stands.{state_of}
+use Rattle.engine.specs.Moves.{StandsThere}
 use Rattle.engine.proofs.Moved.{outcome}
 use Rattle.engine.proofs.Answering.{refused_outcome, refused_keeps, every_transition, outgrown, may_be_made}
+use Rattle.engine.proofs.Transits.{of_ticket, refused_of_ticket}
 use Rattle.engine.proofs.run.Run.answer.Goals as goal
 
 pub returns-in_err-loaded_file : goal.returns-in_err-loaded_file
@@ -35,8 +37,14 @@ returns-in_err-reply g c =
     let call = Answer c.args.ticket c.args.value in
     let r = c.from_residual-in_err-reply.result in
     let e = err_from_is_err_and r c.from_residual-in_err-reply.ensures.1 in
-    let o = refused_outcome m p call r e.0 _ e.1 e.2 c.in_err-reply.ensures in
+    let o = refused_outcome m p call r e.0 _ e.1 e.2 (refused_of_ticket c.in-Some.ensures.0 c.in_err-reply.ensures) in
     record { outcome = o; made = every_transition m p call r _ o; refused = refused_keeps m p call r e.0 _ e.1 e.2; host = refl }
+
+pub reply_step-requires : goal.reply_step-requires
+reply_step-requires g c =
+    let p = c.args.self.now.plain in
+    let standing = c.in-Some.standing in
+    (ap is_some c.in_ok-loaded_file.ensures, subst (λ k. StandsThere (state_of p) k standing) (sym c.in-Some.ensures.0) c.in-Some.ensures.1)
 
 pub simplify-form-requires : goal.simplify-form-requires
 simplify-form-requires g c = c.in_ok-reply.ensures.move.form
@@ -47,11 +55,12 @@ returns-in_err-check_size g c =
     let p = c.args.self.now.plain in
     let call = Answer c.args.ticket c.args.value in
     let reply = c.in_ok-reply.reply in
+    let step = of_ticket c.in-Some.ensures.0 c.in_ok-reply.ensures in
     let r = c.from_residual-in_err-check_size.result in
     let e = err_from_is_err_and r c.from_residual-in_err-check_size.ensures.1 in
     let large = c.in_err-check_size.ensures in
     let gone = withdrawn_with c.args.ticket (content p.form) reply.pruned in
-    let refuses = outgrown m p call (act_of reply.act) gone (content reply.form) (content c.simplify-form.result) c.in_ok-reply.ensures.move c.simplify-form.ensures _ large.0 large.1 in
+    let refuses = outgrown m p call (act_of reply.step.act) gone (content reply.step.form) (content c.simplify-form.result) step.move c.simplify-form.ensures _ large.0 large.1 in
     let o = refused_outcome m p call r e.0 _ e.1 e.2 refuses in
     record { outcome = o; made = every_transition m p call r _ o; refused = refused_keeps m p call r e.0 _ e.1 e.2; host = refl }
 
@@ -61,14 +70,14 @@ answered-requires g c =
     let m = g.H.Host.meaning host in
     let p = c.args.self.now.plain in
     let reply = c.in_ok-reply.reply in
-    let step = c.in_ok-reply.ensures in
+    let step = of_ticket c.in-Some.ensures.0 c.in_ok-reply.ensures in
     let gone = withdrawn_with c.args.ticket (content p.form) reply.pruned in
     record {
       meaning = m;
       laws = g.H.Host.laws host;
       value = c.args.value;
-      left = content reply.form;
-      may = may_be_made m p (Answer c.args.ticket c.args.value) (act_of reply.act) gone (content reply.form) (content c.simplify-form.result) step.move c.simplify-form.ensures c.in_ok-check_size.ensures;
+      left = content reply.step.form;
+      may = may_be_made m p (Answer c.args.ticket c.args.value) (act_of reply.step.act) gone (content reply.step.form) (content c.simplify-form.result) step.move c.simplify-form.ensures c.in_ok-check_size.ensures;
       names = step.names;
     }
 
@@ -80,9 +89,10 @@ returns g c =
     let p = c.args.self.now.plain in
     let call = Answer c.args.ticket c.args.value in
     let reply = c.in_ok-reply.reply in
-    let bs = content reply.form in
+    let step = of_ticket c.in-Some.ensures.0 c.in_ok-reply.ensures in
+    let bs = content reply.step.form in
     let bs' = content c.simplify-form.result in
     let gone = withdrawn_with c.args.ticket (content p.form) reply.pruned in
-    let may = may_be_made m p call (act_of reply.act) gone bs bs' c.in_ok-reply.ensures.move c.simplify-form.ensures c.in_ok-check_size.ensures in
-    let o = subst (Outcome m (state_of p) call (Ok tt)) (sym (c.answered.ensures m laws c.args.value bs may)) (outcome m laws p call (act_of reply.act) gone bs bs' may) in
+    let may = may_be_made m p call (act_of reply.step.act) gone bs bs' step.move c.simplify-form.ensures c.in_ok-check_size.ensures in
+    let o = subst (Outcome m (state_of p) call (Ok tt)) (sym (c.answered.ensures m laws c.args.value bs may)) (outcome m laws p call (act_of reply.step.act) gone bs bs' may) in
     record { outcome = o; made = every_transition m p call (Ok tt) _ o; refused = tt; host = refl }

@@ -26,16 +26,16 @@ returns-in_err-row c =
     let fault : c.in_err-row.field-0.0 ≡ WindowBeforeRow c.args.self.now.at = grind arith in
     rw (p.1, p.2, fault) (window_first c.requires (none_read c.args.rows.now none))
 
-pub returns-then-len-ge-MOST_WINDOWS : goal.returns-then-len-ge-MOST_WINDOWS
-returns-then-len-ge-MOST_WINDOWS c =
+pub returns-then-is_full : goal.returns-then-is_full
+returns-then-is_full c =
     let row = c.in_ok-row.row in
-    window_5 _ _ c.requires (newest_shown c.args.rows.now row (grind arith)) (omega (arith, length-map (items_of row.windows) window_of))
+    window_5 _ _ c.requires (newest_shown c.args.rows.now row (grind arith)) (omega (arith, c.if-is_full.ensures, length-map (items_of row.windows) window_of))
 
 pub returns-in_err-window : goal.returns-in_err-window
 returns-in_err-window c =
     let row = c.in_ok-row.row in
     let p = err_from_is_err_and c.from_residual-in_err-window.result c.from_residual-in_err-window.ensures.1 in
-    rw (p.1, p.2) (bad_window _ _ c.requires (newest_shown c.args.rows.now row (grind arith)) (omega (arith, length-map (items_of row.windows) window_of)) c.in_err-window.ensures)
+    rw (p.1, p.2) (bad_window _ _ c.requires (newest_shown c.args.rows.now row (grind arith)) (omega (arith, c.if-is_full.ensures, length-map (items_of row.windows) window_of)) c.in_err-window.ensures)
 
 pub returns : goal.returns
 returns c =
@@ -43,5 +43,5 @@ returns c =
     let row = c.in_ok-row.row in
     let is : Some row ≡ last_of (items_of rows) = grind arith in
     let window = c.in_ok-window.ensures in
-    reads_window _ _ c.requires (newest_shown rows row is) (omega (arith, length-map (items_of row.windows) window_of)) window.0
+    reads_window _ _ c.requires (newest_shown rows row is) (omega (arith, c.if-is_full.ensures, length-map (items_of row.windows) window_of)) window.0
     (newest_replaced rows c.replace_last.new.self row _ is c.replace_last.ensures ∙ ap (λ r. r ∷ behind rows) (window_added row c.push.new.self c.in_ok-window.window (search rules) ∙ ap (with_window (row_of row)) window.1))
