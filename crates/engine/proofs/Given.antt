@@ -1,5 +1,5 @@
 -- The state that a run's parts stand for, part by part, and the facts in its type. Assumes nothing.
-use Rattle.std.proofs.Common.{◌≡◌, ℕ, Option, sym, subst}
+use Rattle.std.proofs.Common.{◌≡◌, ℕ, Option, Some, None, IsSome, MatchOption, sym, refl, subst}
 use Rattle.forms.specs.Heads.{IsForm}
 use Rattle.walks.specs.Contents.{Buffer, content}
 use Rattle.runs.specs.States.{State}
@@ -10,6 +10,11 @@ use Rattle.engine.specs.declared.table.Table.{Table}
 use Rattle.engine.specs.declared.plain.Plain.{Plain}
 use Rattle.engine.specs.Held.{Record, definitions_held, WholeFile, held}
 use Rattle.engine.specs.Stands.{state_of}
+
+-- there is a value where none is refuted
+pub there_is : {A P : Type 0} (Q : A → Type 0) (o : Option A) → MatchOption o P Q → (P → ⊥) → IsSome o
+there_is Q None none refuted = absurd (refuted none)
+there_is Q (Some x) holds refuted = refl
 
 -- states with equal parts are equal
 pub same_state : {s t : State} → s.loaded ≡ t.loaded → s.definitions ≡ t.definitions → s.clock ≡ t.clock → s.expression ≡ t.expression → s.issued ≡ t.issued → s.events ≡ t.events → ((site : ℕ) → s.totals site ≡ t.totals site) → s ≡ t

@@ -1,7 +1,6 @@
 mod Recorded
 mod Counting
 mod Given
-mod Writing
 mod Beginning
 mod Moved
 mod Late

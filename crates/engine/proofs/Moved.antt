@@ -2,7 +2,6 @@
 use Rattle.std.proofs.Common.{◌≡◌, ℕ, suc, ◌+◌, ◌<◌, ◌≤◌, Bool, not, eqb, leb, List, [], ◌∷◌, ◌++◌, length, Ok, count_by, filter, sym, refl, ap, ◌∙◌, add-zero, arith}
 use Rattle.std.specs.List.{ContainsAt as Has, AllByRecursion}
 use Rattle.std.proofs.ByRecursion.{All-weaker, all-has, all_kept_by}
-use Rattle.std.proofs.lemmas.List.Sums.{count_by-le-length}
 use Rattle.std.proofs.lemmas.Bool.{leb-true, eq-eqb, not_from_true}
 use Rattle.orc.specs.Meaning.{Meaning, Lawful}
 use Rattle.orc.specs.Expressions.{Expression}
@@ -13,6 +12,9 @@ use Rattle.forms.specs.Reading.{expression_of}
 use Rattle.forms.specs.Heads.{IsForm}
 use Rattle.forms.proofs.ReadBack.{read_back}
 use Rattle.walks.specs.Contents.{Buffer, content}
+use Rattle.events.specs.Acts.{act_of}
+use Rattle.events.specs.declared.act.Act.{Act as Shown}
+use Rattle.events.specs.declared.act.Act.TheVariants.{Inner, Out}
 use Rattle.runs.specs.declared.call.Call.{Call}
 use Rattle.runs.specs.declared.call.Call.TheVariants.{Go, Answer, Wait}
 use Rattle.runs.specs.States.{State, world_of}
@@ -25,7 +27,7 @@ use Rattle.orc.proofs.Keeping.{kept_by_steps}
 use Rattle.runs.proofs.Counts.{none_passes, all_pass}
 use Rattle.runs.proofs.Finding.{kept_only}
 use Rattle.runs.proofs.Standing.{reply_begins}
-use Rattle.runs.proofs.Ranging.{pending_pass, ranged_step, RangedAct}
+use Rattle.runs.proofs.Ranging.{pending_pass, ranged_step}
 use Rattle.engine.specs.declared.table.Table.{Table}
 use Rattle.engine.specs.declared.table.Cause.TheVariants.{Called, Answered, Withdrawn, Lapsed}
 use Rattle.engine.specs.declared.plain.Plain.{Plain}
@@ -33,7 +35,7 @@ use Rattle.engine.specs.Tallies.{totals_at, by_cause, CountsIn, Room}
 use Rattle.engine.specs.Held.{Record, held, entries}
 use Rattle.engine.specs.Stands.{state_of}
 use Rattle.engine.specs.Moves.{MayBeMade, MayBeWaited}
-use Rattle.engine.proofs.Counting.{same_totals}
+use Rattle.engine.proofs.Counting.{same_totals, none_counted}
 use Rattle.engine.proofs.Given.{same_state, keeps}
 use Rattle.engine.proofs.Beginning.{is_form}
 
@@ -42,12 +44,7 @@ leaf : {m : Meaning} {s : State} {c : Call} {a : Act} {gone : List Pending} {e :
 leaf (by_go {n} st) = (due n, st)
 leaf (by_answer {k} {v} st) = (reply k v, st)
 
--- sites in range, of what an act begins and of what stands
-act_sited : (t k : ℕ) (a : Act) → RangedAct a → AllByRecursion (λ p. p.site < 32) (made t k a)
-act_sited t k (called s v) r = (omega (arith, leb-true s 31 r.0), tt)
-act_sited t k inner r = tt
-act_sited t k (out v) r = tt
-
+-- sites in range, of what stands
 pub standing_sited : {ds : _} {n t : ℕ} (e : Expression) → KeptExpression ds n t e → AllByRecursion (λ p. p.site < 32) (pending_calls e)
 standing_sited e k = All-weaker _ _ (λ p q. omega (arith, leb-true p.site 31 q.0)) (pending_calls e) (pending_pass _ _ _ e k.ranged)
 
@@ -87,20 +84,10 @@ module _ (m : Meaning) (laws : Lawful m) (p : Plain) (c : Call) (a : Act) (gone 
   few_ended : (site : ℕ) → ended ((stepped m (state_of p) c a gone (expression_of bs)).totals site) ≤ 512
   few_ended site = let k = kept_after in omega (arith, k.balanced site, few_called site)
 
-  pub few_issued : p.issued + length (made p.clock (suc p.issued) a) ≤ 512
-  few_issued = let k = kept_after in omega (arith, k.tickets_recorded, k.record_fits)
-
-  pub room_called : Room p.table Called (made 0 0 a)
-  room_called =
-      record {
-        sited = act_sited 0 0 a (ranged_step laws (keeps p).definitions_kept.ranged (leaf may.move.takes).1 (keeps p).expression_kept.ranged).1;
-        enough = λ site. omega (arith, (keeps p).called_issued site, (keeps p).tickets_recorded, (keeps p).record_fits, count_by-le-length (of_site site) (made 0 0 a), one a);
-      }
-    where
-      one : (a : Act) → length (made 0 0 a) ≤ 1
-      one (called s v) = omega arith
-      one inner = omega arith
-      one (out v) = omega arith
+  pub room_called : (site value : ℕ) → a ≡ called site value → (site < 32) × ((totals_at p.table site).called < 65535)
+  room_called site value is =
+      let acts = rw is at (ranged_step laws (keeps p).definitions_kept.ranged (leaf may.move.takes).1 (keeps p).expression_kept.ranged).1 in
+      (omega (arith, leb-true site 31 acts.0), omega (arith, (keeps p).called_issued site, (keeps p).tickets_recorded, (keeps p).record_fits))
 
   -- the state after it, by the parts of the run
   module _ (form : Buffer) (issued : ℕ) (events : Record) (table : Table) where
@@ -112,21 +99,34 @@ module _ (m : Meaning) (laws : Lawful m) (p : Plain) (c : Call) (a : Act) (gone 
   pub moved_form : (form : Buffer) → content form ≡ bs' → IsForm (content form)
   moved_form form f = is_form (settled m (state_of p) c (expression_of bs)) (content form) (f ∙ may.settles)
 
+-- The call that an act made, if it made one, is counted, and has its ticket.
+pub record CallCounted (p : Plain) (a : Act) (issued : ℕ) (table : Table) : Type 0 where
+  pub counted : (t k : ℕ) → CountsIn p.table table (by_cause Called (made t k a))
+  pub many : (t k : ℕ) → issued ≡ p.issued + length (made t k a)
+
+pub one_call : (p : Plain) (act : Shown) {s v : ℕ} {table : Table} → act ≡ Shown.Called s v → ((q : Pending) → q.site ≡ s → CountsIn p.table table (by_cause Called (q ∷ []))) → CallCounted p (act_of act) (p.issued + 1) table
+one_call p act {s} {v} is counts = rw is (record { counted = λ t k. counts (record { ticket = k; site = s; argument = v; since = t }) refl; many = λ t k. refl })
+
+pub no_call : (p : Plain) (act : Shown) → ((s v : ℕ) → act ≡ Shown.Called s v → ⊥) → CallCounted p (act_of act) p.issued p.table
+no_call p (Shown.Called s v) none = absurd (none s v refl)
+no_call p Inner none = record { counted = λ t k site. sym (none_counted (of_site site) Called _); many = λ t k. sym (add-zero _) }
+no_call p (Out v) none = record { counted = λ t k site. sym (none_counted (of_site site) Called _); many = λ t k. sym (add-zero _) }
+
 -- A due call: what it called is counted, and then what lapses.
-module _ (m : Meaning) (laws : Lawful m) (p : Plain) (n : ℕ) (a : Act) (bs bs' : List ℕ) (may : MayBeMade m (state_of p) (Go n) a [] bs bs') (called : Table) (first : (t k : ℕ) → CountsIn p.table called (by_cause Called (made t k a))) where
+module _ (m : Meaning) (laws : Lawful m) (p : Plain) (n : ℕ) (a : Act) (bs bs' : List ℕ) (may : MayBeMade m (state_of p) (Go n) a [] bs bs') (issued : ℕ) (called : Table) (first : CallCounted p a issued called) where
   pub room_lapsed : Room called Lapsed (filter (lapses m p.clock) (pending_calls (expression_of bs)))
   room_lapsed =
       record {
         sited = all_kept_by (lapses m p.clock) _ (pending_calls (expression_of bs)) (standing_sited (expression_of bs) (kept_left m laws p (Go n) a [] bs bs' may));
-        enough = λ site. omega (arith, few_ended m laws p (Go n) a [] bs bs' may site, ap (λ t. t.lapsed) (first 0 0 site));
+        enough = λ site. omega (arith, few_ended m laws p (Go n) a [] bs bs' may site, ap (λ t. t.lapsed) (first.counted 0 0 site));
       }
 
-  pub gone_state : (form : Buffer) (issued : ℕ) (events : Record) (table : Table) → CountsIn called table (by_cause Lapsed (filter (lapses m p.clock) (pending_calls (expression_of bs))))
-      → issued ≡ length (made p.clock (suc p.issued) a) → entries events ≡ entries p.events ++ (record { tick = p.clock; act = a } ∷ []) → content form ≡ bs'
-      → held p.file p.clock form (p.issued + issued) events table ≡ stepped m (state_of p) (Go n) a [] (expression_of bs)
-  gone_state form issued events table second i es f =
-      moved_state m laws p (Go n) a [] bs bs' may form (p.issued + issued) events table (ap (λ n. p.issued + n) i) es f (λ site.
-      let x = first p.clock (suc p.issued) site in
+  pub gone_state : (form : Buffer) (events : Record) (table : Table) → CountsIn called table (by_cause Lapsed (filter (lapses m p.clock) (pending_calls (expression_of bs))))
+      → entries events ≡ entries p.events ++ (record { tick = p.clock; act = a } ∷ []) → content form ≡ bs'
+      → held p.file p.clock form issued events table ≡ stepped m (state_of p) (Go n) a [] (expression_of bs)
+  gone_state form events table second es f =
+      moved_state m laws p (Go n) a [] bs bs' may form issued events table (first.many p.clock (suc p.issued)) es f (λ site.
+      let x = first.counted p.clock (suc p.issued) site in
       let y = second site in
       same_totals
       (ap (λ t. t.called) y ∙ add-zero _ ∙ ap (λ t. t.called) x)

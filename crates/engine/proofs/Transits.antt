@@ -98,17 +98,14 @@ module _ (p : Plain) (loaded : (state_of p).loaded ≡ true) (n : ℕ) (bs : Lis
 form_within : {bs : List ℕ} {place v : ℕ} {frame : Option Stretch} {a : Act} {q : Option Stretch} {bs' : List ℕ} → Replied bs place v frame a q bs' → FormWithin bs q
 form_within (publishes h) = tt
 form_within (spawns s h e) = tt
-form_within (binds s q h e same f) = (f.ordered, f.within, f.form)
+form_within (binds s q h e same f) = (f.within, f.form)
 
 -- what a search for a ticket finds
 pub stands_there : (s : State) (k : ℕ) (r : Option Placed) → is_some r ≡ ltb 0 (standing k s.expression) → option_map (λ p. p.place) r ≡ ticket_place k s.expression → option_map (λ p. pending_of p.call) r ≡ find (λ q. eqb k q.ticket) (pending_calls s.expression) → IfSome r (λ p. p.call.ticket ≡ k) → MatchOption r (standing k s.expression ≡ 0) (λ p. (p.call.ticket ≡ k) × StandsThere s k p)
 stands_there s k None found place call ticket = grind (arith, nat_tests)
 stands_there s k (Some p) found place call ticket = (ticket, record { place = sym place; call = sym call })
 
--- a reply to a call is one to its ticket
-pub of_ticket : {m : Meaning} {s : State} {k j v site : ℕ} {a : Act} {bs : List ℕ} {q : Option Stretch} {bs' : List ℕ} → k ≡ j → ReplyStep m s k v site a bs q bs' → ReplyStep m s j v site a bs q bs'
-of_ticket {m} {s} {k} {j} {v} {site} {a} {bs} {q} {bs'} = subst (λ k. ReplyStep m s k v site a bs q bs')
-
+-- what refuses a reply to a call refuses one to its ticket
 pub refused_of_ticket : {m : Meaning} {s : State} {k j v : ℕ} {f : Refusal} → k ≡ j → Refuses m s (Answer k v) f → Refuses m s (Answer j v) f
 refused_of_ticket {m} {s} {k} {j} {v} {f} = subst (λ k. Refuses m s (Answer k v) f)
 

@@ -33,7 +33,7 @@ pub record MayBeMade (m : Meaning) (s : State) (c : Call) (a : Act) (gone : List
 
 -- A stretch of the bytes, if there is one, is a form.
 abbrev pub FormWithin : List ℕ → Option Stretch → Type 0
-FormWithin bs q = IfSome q (λ r. (r.at ≤ r.end) × (r.end ≤ length bs) × IsForm (between r.at r.end bs))
+FormWithin bs q = IfSome q (λ r. (r.end ≤ length bs) × IsForm (between r.at r.end bs))
 
 -- The first pending call with the ticket k, and its place in the form.
 pub record StandsThere (s : State) (k : ℕ) (p : Placed) : Type 0 where

@@ -7,6 +7,7 @@ ghost use Rattle.engine.specs.Making.{EveryTransitionIsMade, EveryPassageIsWaite
 
 use crate::run::Run;
 use crate::settling::{check_size, settle, simplify};
+use crate::whole::Whole;
 use hosts::host::Host;
 use runs::call::Call;
 use runs::refusal::Refusal;
@@ -22,7 +23,7 @@ impl<H: Host + Copy> Run<H> {
         ensures host { self.new.host ≡ self.old.host }
     {
         let step = self.plain.due_step(n)?;
-        let form = settle(&self.host, &step.form, self.plain.clock);
+        let form = settle(&self.host, Whole::new(&step.form), self.plain.clock);
         check_size(&form)?;
         self.plain.gone(&self.host, &step, &form);
         Ok(())
@@ -39,14 +40,14 @@ impl<H: Host + Copy> Run<H> {
         ensures host { self.new.host ≡ self.old.host }
     {
         self.plain.loaded_file()?;
+        // Kept: `let .. else`, which a rule of this project asks for here: docs/DECISIONS.md says why.
         let Some(standing) = self.plain.standing_call(ticket) else {
             return Err(Refusal::NotStanding(ticket));
         };
         let reply = self.plain.reply_step(&self.host, standing, value)?;
-        let form = simplify(&reply.step.form);
+        let form = simplify(Whole::new(&reply.step.form));
         check_size(&form)?;
-        self.plain
-            .answered(ticket, standing.call.site, &reply, &form);
+        self.plain.answered(standing.call, &reply, &form);
         Ok(())
     }
 
@@ -60,7 +61,7 @@ impl<H: Host + Copy> Run<H> {
         ensures host { self.new.host ≡ self.old.host }
     {
         self.plain.check_wait(&self.host, ticks)?;
-        let form = settle(&self.host, &self.plain.form, self.plain.clock + ticks);
+        let form = settle(&self.host, self.plain.standing(), self.plain.clock + ticks);
         self.plain.waited(&self.host, ticks, &form);
         Ok(())
     }

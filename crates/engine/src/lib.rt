@@ -16,3 +16,4 @@ mod stepping;
 mod table;
 mod tallies;
 mod waiting;
+mod whole;

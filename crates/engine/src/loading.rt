@@ -11,21 +11,21 @@ use crate::plain::Plain;
 use crate::record::{Record, UNUSED};
 use crate::settling::simplify;
 use crate::table::Table;
+use crate::whole::Whole;
 use files::contents::Contents;
 use forms::command::Command;
 use runs::refusal::Refusal;
 use walks::buffer::Buffer;
 
 // A buffer with bytes for which it has room.
-// Kept: a function of its own, which states that there is room; the public `extend_from_slice` asks for nothing.
+// Kept: a function of its own. No public function of this repository asks anything of its caller, so the list's own
+// `extend_from_slice` must be able to refuse; this one, which is private, is told that there is room.
 fn buffer_of(bytes: &[u8]) -> Buffer
     requires { length bytes.now ≤ capacity }
     ensures { content result ≡ bytes.now }
 {
     let mut buffer = Buffer::new(0);
-    let Ok(()) = buffer.extend_from_slice(bytes) else {
-        unreachable!()
-    };
+    buffer.extend_from_slice(bytes).unwrap();
     buffer
 }
 
@@ -44,6 +44,19 @@ impl Plain {
         }
     }
 
+    // For a file that was accepted: it is loaded, and its goal stands, simplified.
+    // Kept: fields that are set one by one. A struct with facts in its type takes no `..Plain::unloaded()`.
+    pub(crate) fn loaded(file: &[u8]) -> Plain
+        requires { Accepted file.now }
+        ensures { state_of result ≡ states.begun (file_of file.now) }
+    {
+        let goal = Contents::new(file).goal();
+        let mut plain = Plain::unloaded();
+        plain.file = Some(buffer_of(file));
+        plain.form = simplify(Whole { form: goal });
+        plain
+    }
+
     // The file that is loaded. Without one every call is refused.
     pub(crate) fn loaded_file(&self) -> Result<&Buffer, Refusal>
         ensures { MatchResult result
@@ -51,21 +64,5 @@ impl Plain {
             (λ f. (f ≡ Refusal.NotLoaded) × (self.now.file ≡ None)) }
     {
         self.file.as_ref().ok_or(Refusal::NotLoaded)
-    }
-
-    // For a file that was accepted.
-    pub(crate) fn loaded(file: &[u8]) -> Plain
-        requires { Accepted file.now }
-        ensures { state_of result ≡ states.begun (file_of file.now) }
-    {
-        let goal = buffer_of(Contents::new(file).goal().as_bytes());
-        Plain {
-            file: Some(buffer_of(file)),
-            clock: 0,
-            form: simplify(&goal),
-            issued: 0,
-            events: Record::new(UNUSED),
-            table: Table::new(),
-        }
     }
 }

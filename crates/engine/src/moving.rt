@@ -12,7 +12,10 @@ ghost use Rattle.engine.specs.Moves.{MayBeMade, MayBeAnswered, AnsweredSo, MayBe
 use crate::plain::Plain;
 use crate::recording::record;
 use crate::table::Cause;
+use crate::whole::Whole;
+use events::act::Act;
 use events::event::Event;
+use forms::pending::Pending;
 use hosts::host::Host;
 use steps::reply::Reply;
 use steps::step::Step;
@@ -24,26 +27,31 @@ impl Plain {
         requires { (n : ℕ) × MayBeMade (H.Host.meaning host.now) (state_of self.old) (Go n) (act_of step.now.act) [] (content step.now.form) (content form.now) }
         ensures { state_of self.new ≡ stepped (H.Host.meaning host.now) (state_of self.old) (Go 0) (act_of step.now.act) [] (expression_of (content step.now.form)) }
     {
-        let Step { act, .. } = *step;
-        let clock = self.clock;
-        self.issued += self.table.count_called(act);
-        self.table.count_lapsed(&step.form, host, clock);
-        record(&mut self.events, Event { clock, act });
+        if let Act::Called { site, .. } = step.act {
+            self.issued += 1;
+            self.table.count(site, Cause::Called);
+        }
+        let left = Whole::new(&step.form);
+        self.table.count_lapsed(left, host, self.clock);
+        let event = Event {
+            clock: self.clock,
+            act: step.act,
+        };
+        record(&mut self.events, event);
         self.form = *form;
     }
 
-    // The pending call of a ticket was answered, and the form that this left is simplified.
-    pub(crate) fn answered(&mut self, ticket: u32, site: u8, reply: &Reply, form: &Buffer)
-        requires { MayBeAnswered (state_of self.old) ticket site (act_of reply.now.step.act) (content self.old.form) reply.now.pruned (content form.now) }
-        ensures { AnsweredSo (state_of self.old) (state_of self.new) ticket (act_of reply.now.step.act) (withdrawn_with ticket (content self.old.form) reply.now.pruned) (content form.now) }
+    // A pending call was answered, and the form that this left is simplified.
+    pub(crate) fn answered(&mut self, call: Pending, reply: &Reply, form: &Buffer)
+        requires { MayBeAnswered (state_of self.old) call.ticket call.site (act_of reply.now.step.act) (content self.old.form) reply.now.pruned (content form.now) }
+        ensures { AnsweredSo (state_of self.old) (state_of self.new) call.ticket (act_of reply.now.step.act) (withdrawn_with call.ticket (content self.old.form) reply.now.pruned) (content form.now) }
     {
-        let Reply { step, pruned } = *reply;
-        let clock = self.clock;
-        self.table.count(site, Cause::Answered);
-        self.table.count_withdrawn(&self.form, pruned, ticket);
+        self.table.count(call.site, Cause::Answered);
+        self.table
+            .count_withdrawn(&self.form, reply.pruned, call.ticket);
         let event = Event {
-            clock,
-            act: step.act,
+            clock: self.clock,
+            act: reply.step.act,
         };
         record(&mut self.events, event);
         self.form = *form;
@@ -55,7 +63,8 @@ impl Plain {
         ensures { state_of self.new ≡ waited (H.Host.meaning host.now) (state_of self.old) ticks }
     {
         let clock = self.clock + ticks;
-        self.table.count_lapsed(&self.form, host, clock);
+        let left = Whole::new(&self.form);
+        self.table.count_lapsed(left, host, clock);
         self.clock = clock;
         self.form = *form;
     }

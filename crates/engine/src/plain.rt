@@ -1,4 +1,5 @@
 // What a run holds beside its host, in fixed memory.
+ghost use Rattle.std.specs.Prelude.{◌≡◌};
 ghost use Rattle.forms.specs.Heads.{IsForm};
 ghost use Rattle.walks.specs.Contents.{content};
 ghost use Rattle.runs.specs.Facts.{FormalsBind, BodiesFit, StateFits};
@@ -6,6 +7,7 @@ ghost use Rattle.engine.specs.Held.{definitions_held, WholeFile, held};
 
 use crate::record::Record;
 use crate::table::Table;
+use crate::whole::Whole;
 use walks::buffer::Buffer;
 
 // The file is there if it was accepted: with one that was refused nothing is loaded.
@@ -22,4 +24,13 @@ pub(crate) struct Plain {
     ghost formals: { FormalsBind (definitions_held file) },
     ghost bodies: { BodiesFit (definitions_held file) },
     ghost fits: { StateFits (held file clock form issued events table) },
+}
+
+impl Plain {
+    // The form that stands.
+    pub(crate) fn standing(&self) -> Whole<'_>
+        ensures { result.form.bytes.now ≡ content self.now.form }
+    {
+        Whole::new(&self.form)
+    }
 }

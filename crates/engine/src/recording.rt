@@ -7,12 +7,11 @@ use crate::record::Record;
 use events::event::Event;
 
 // Adds an event, for which there is room, behind the others.
-// Kept: a function of its own, which states that there is room; the public `push` asks for nothing, and may find none.
+// Kept: a function of its own. No public function of this repository asks anything of its caller, so the list's own `push`
+// must be able to refuse; this one, which is private, is told that there is room.
 pub(crate) fn record(events: &mut Record, event: Event)
     requires { length (entries events.old) < 512 }
     ensures { entries events.new ≡ entries events.old ++ (entry_of event ∷ []) }
 {
-    let Ok(()) = events.push(event) else {
-        unreachable!()
-    };
+    events.push(event).unwrap();
 }

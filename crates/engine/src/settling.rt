@@ -3,12 +3,11 @@ ghost use Rattle.std.specs.Prelude.{◌≡◌, ◌<◌, ◌≤◌, length, Match
 ghost use Rattle.orc.specs.Expressions.{bytes as form_bytes};
 ghost use Rattle.orc.specs.Simplified.{simplified};
 ghost use Rattle.orc.specs.Calls.{lapsed};
-ghost use Rattle.forms.specs.Reading.{expression_of};
-ghost use Rattle.forms.specs.Heads.{IsForm};
+ghost use Rattle.forms.specs.Heads.{expression};
 ghost use Rattle.walks.specs.Contents.{content};
 ghost use Rattle.runs.specs.Outcomes.{largest_form};
 
-use forms::form::Form;
+use crate::whole::Whole;
 use hosts::host::Host;
 use runs::refusal::Refusal;
 use walks::buffer::Buffer;
@@ -19,23 +18,19 @@ use walks::settling::settle_into;
 const LARGEST_FORM: usize = 4096;
 
 // A form with the pending calls ended that no window reaches at a tick, and simplified.
-// Kept: that the bytes are a form is asked here. A form asks nothing of its bytes; the fact stands in the type of a run.
-pub(crate) fn settle<H: Host>(host: &H, left: &Buffer, tick: u32) -> Buffer
-    requires { IsForm (content left.now) }
-    ensures { content result ≡ form_bytes (simplified (lapsed (H.Host.meaning host.now) tick (expression_of (content left.now)))) }
+// Kept: beside the public `settle_into`, and `simplify` beside `simplify_into`. The public ones write behind what a buffer holds,
+// and may find no room. These are private, and their buffer is new, so they have no error to tell.
+pub(crate) fn settle<H: Host>(host: &H, left: Whole, tick: u32) -> Buffer
+    ensures { content result ≡ form_bytes (simplified (lapsed (H.Host.meaning host.now) tick (expression left.entry.form))) }
 {
     let mut form = Buffer::new(0);
-    let Ok(()) = settle_into(host, Form::new(left.as_slice()), u64::from(tick), &mut form) else {
-        unreachable!()
-    };
+    settle_into(host, left.form, u64::from(tick), &mut form).unwrap();
     form
 }
 
 // A form simplified, with every pending call left.
-// Kept: beside the public `simplify_into`, which writes behind what a buffer holds. Here the buffer is new, so there is room.
-pub(crate) fn simplify(left: &Buffer) -> Buffer
-    requires { IsForm (content left.now) }
-    ensures { content result ≡ form_bytes (simplified (expression_of (content left.now))) }
+pub(crate) fn simplify(left: Whole) -> Buffer
+    ensures { content result ≡ form_bytes (simplified (expression left.entry.form)) }
 {
     settle(&Endless, left, 0)
 }

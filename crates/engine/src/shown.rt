@@ -4,6 +4,7 @@ ghost use Rattle.std.specs.Prelude.{◌≡◌, ◌+◌, ◌≤◌};
 use crate::table::Totals;
 
 // How many tickets of a site were called, and what became of them: answered, withdrawn, lapsed, or still standing.
+// Kept: the four numbers of `Totals` again. How many stand follows only where they balance, which a public method could not ask.
 #[derive(Clone, Copy, PartialEq, Eq, Debug)]
 pub struct SiteTotals {
     pub called: u16,

@@ -11,7 +11,6 @@ ghost use Rattle.engine.specs.Moves.{Move, StandsThere, ReplyStep};
 
 use crate::plain::Plain;
 use files::contents::Contents;
-use forms::form::Form;
 use hosts::host::Host;
 use places::due::{due_count, due_place};
 use places::tickets::{Placed, first_with_ticket};
@@ -30,7 +29,8 @@ impl Plain {
             (λ f. (m : Meaning) → Refuses m (state_of self.now) (Go n) f) }
     {
         let file = self.loaded_file()?;
-        let form = Form::new(self.form.as_slice());
+        let form = self.standing().form;
+        // Kept: `let .. else`. Of a count in the closure of `ok_or_else` nothing is known without a contract written on it.
         let Some(place) = due_place(form, n as usize) else {
             return Err(Refusal::NoneDue(due_count(form)));
         };
@@ -38,10 +38,7 @@ impl Plain {
             return Err(Refusal::RecordFull);
         }
         let contents = Contents::new(file.as_slice());
-        let Some(step) = make_call(form, place, contents, self.issued + 1, self.clock) else {
-            unreachable!()
-        };
-        Ok(step)
+        Ok(make_call(form, place, contents, self.issued + 1, self.clock).unwrap())
     }
 
     // The pending call of a ticket and its place in the form, if it stands.
@@ -50,7 +47,7 @@ impl Plain {
             (standing ticket (state_of self.now).expression ≡ 0)
             (λ p. (p.call.ticket ≡ ticket) × StandsThere (state_of self.now) ticket p) }
     {
-        first_with_ticket(Form::new(self.form.as_slice()), ticket)
+        first_with_ticket(self.standing().form, ticket)
     }
 
     // The transition of a reply to a pending call that stands in the form.
@@ -72,9 +69,6 @@ impl Plain {
         if self.events.is_full() {
             return Err(Refusal::RecordFull);
         }
-        let Some(reply) = make_reply(Form::new(self.form.as_slice()), place, value) else {
-            unreachable!()
-        };
-        Ok(reply)
+        Ok(make_reply(self.standing().form, place, value).unwrap())
     }
 }

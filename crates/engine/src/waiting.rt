@@ -2,14 +2,14 @@
 ghost use Rattle.std.specs.Prelude.{◌≡◌, false, MatchOption, MatchResult};
 ghost use Rattle.std.specs.List.{AllByRecursion};
 ghost use Rattle.orc.specs.Calls.{Pending, pending_calls};
-ghost use Rattle.forms.specs.Heads.{expression, IsForm};
+ghost use Rattle.forms.specs.Heads.{expression};
 ghost use Rattle.runs.specs.declared.call.Call.TheVariants.{Wait};
 ghost use Rattle.runs.specs.Outcomes.{First, late, Refuses};
 ghost use Rattle.engine.specs.Stands.{state_of};
 ghost use Rattle.engine.specs.Moves.{CanPass};
 
 use crate::plain::Plain;
-use forms::form::Form;
+use crate::whole::Whole;
 use hosts::host::Host;
 use places::due::due_count;
 use places::tickets::pending_calls;
@@ -20,14 +20,12 @@ use walks::ages::can_stand;
 const LAST_CLOCK: u64 = 4_294_967_294;
 
 // The ticket of the first pending call of a form that cannot stand without a reply any longer at a tick.
-// Kept: that the bytes are a form is asked here. A form asks nothing of its bytes; the fact stands in the type of a run.
-fn first_late<H: Host>(host: &H, form: Form, tick: u64) -> Option<u32>
-    requires { IsForm form.bytes.now }
+fn first_late<H: Host>(host: &H, whole: Whole, tick: u64) -> Option<u32>
     ensures { MatchOption result
-        (AllByRecursion (λ p. late (H.Host.meaning host.now) tick p ≡ false) (pending_calls (expression form.entry)))
-        (λ k. (p : Pending) × First (late (H.Host.meaning host.now) tick) (pending_calls (expression form.entry)) p × (p.ticket ≡ k)) }
+        (AllByRecursion (λ p. late (H.Host.meaning host.now) tick p ≡ false) (pending_calls (expression whole.entry.form)))
+        (λ k. (p : Pending) × First (late (H.Host.meaning host.now) tick) (pending_calls (expression whole.entry.form)) p × (p.ticket ≡ k)) }
 {
-    pending_calls(form)
+    pending_calls(whole.form)
         .find(|placed| !can_stand(host, placed.call, tick))
         .map(|placed| placed.call.ticket)
 }
@@ -40,13 +38,13 @@ impl Plain {
             (λ f. Refuses (H.Host.meaning host.now) (state_of self.now) (Wait ticks) f) }
     {
         self.loaded_file()?;
-        let form = Form::new(self.form.as_slice());
-        let due = due_count(form);
+        let standing = self.standing();
+        let due = due_count(standing.form);
         if ticks > 0 && due > 0 {
             return Err(Refusal::DueFirst(due));
         }
         let tick = u64::from(self.clock) + u64::from(ticks);
-        if let Some(ticket) = first_late(host, form, tick) {
+        if let Some(ticket) = first_late(host, standing, tick) {
             return Err(Refusal::Overdue(ticket));
         }
         if tick > LAST_CLOCK {

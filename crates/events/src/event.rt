@@ -26,7 +26,8 @@ impl Event {
     }
 
     // The site of a call, and 0 for any other event.
-    // Kept: a number, here and below, and not an `Option`. An event is read as clock, kind, number and value, and each is there.
+    // Kept: a number, here and below, and not an `Option`. Both are public, and what an event is read as is defined with a number and
+    // a value for each kind, 0 for none.
     pub fn number(self) -> u8
         ensures { result ≡ (shows (entry_of self).act).number }
     {

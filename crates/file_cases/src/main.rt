@@ -10,7 +10,7 @@ use hosts::host::Host;
 use hosts::local::Local;
 use hosts::pair::Pair;
 use std::alloc::{AllocError, Global};
-use std::io;
+use std::{io, iter};
 use verdicts::reason::Reason;
 
 const STOP: [u8; 1] = [0];
@@ -38,7 +38,7 @@ fn variable(number: u16) -> [u8; 5] {
 }
 
 // What comes of a file.
-// Kept: `sheet_cases` prints such a line of a sheet. They are two lines in two programs, and no third needs them.
+// Kept: `sheet_cases` prints such a line of a sheet. One function for both would need a crate of its own for a match of two arms.
 fn show<H: Host>(rt: &HostRuntime, host: &H, name: &str, bytes: &[u8]) -> io::Result<()> {
     let length = bytes.len();
     match check_file(host, bytes) {
@@ -362,10 +362,10 @@ fn random(rt: &HostRuntime) -> io::Result<()> {
     let mut dice = Dice(7);
     let mut tally = Tally::default();
     for _ in 0..20000 {
-        let mut file = Vec::new(rt.alloc());
-        for _ in 0..dice.draw() % 40 {
-            file.push(dice.draw_byte())?;
-        }
+        let length = (dice.draw() % 40) as usize;
+        let file: Vec<u8> = iter::repeat_with(|| dice.draw_byte())
+            .take(length)
+            .collect(rt.alloc())?;
         tally.add(check_file(&TWICE, file.as_slice()));
     }
     tally.show(rt, "random")

@@ -1,5 +1,5 @@
 -- A file is judged definition by definition, and then its goal. Assumes nothing.
-use Rattle.std.proofs.Common.{◌≡◌, ℕ, suc, ◌+◌, ◌-◌, ◌<◌, ◌≤◌, List, length, None, Ok, Err, Result, refl, subst, arith, MatchResult}
+use Rattle.std.proofs.Common.{◌≡◌, ℕ, suc, ◌+◌, ◌-◌, ◌<◌, ◌≤◌, List, ◌∷◌, [], ◌++◌, length, length-append, None, Ok, Err, Result, refl, sym, subst, arith, MatchResult}
 use Rattle.orc.specs.Meaning.{Meaning}
 use Rattle.orc.specs.Expressions.{Expression, Definition}
 use Rattle.orc.specs.Files.{File}
@@ -36,6 +36,13 @@ module _ (m : Meaning) (n : ℕ) (bs : List ℕ) where
 
     pub all_passed : n ≤ i → EndsIn m n bs 0 at
     all_passed all = let none : n - i ≡ 0 = omega arith in subst (λ (k : ℕ). EndsIn m n bs k at) none before
+
+  -- as many definitions as a list is long have been passed, and another one is good
+  pub passed_one_more : (xs : List ℕ) (x : ℕ) {at next : ℕ} → (length xs ≤ n → EndsIn m n bs (n - length xs) at) → ((d : Definition) × DefinitionOutcome m n bs at (Ok d)) → next ≡ definition_end bs at
+      → length (xs ++ (x ∷ [])) ≤ n → EndsIn m n bs (n - length (xs ++ (x ∷ []))) next
+  passed_one_more xs x {at} {next} before (d, good) there within =
+      let longer = length-append xs (x ∷ []) in
+      subst (λ (l : ℕ). EndsIn m n bs (n - l) next) (sym longer) (over_definition (length xs) (before (omega (arith, longer))) (omega (arith, longer)) good there)
 
   pub at_goal : {at : ℕ} {scope : Scope} → EndsIn m n bs 0 at → scope ≡ nothing_bound → {A : Type 0} (r : Result A Fault)
       → MatchResult r (λ _. (e : Expression) × WholeOutcome m n bs scope at (Ok e)) (λ f. WholeOutcome m n bs scope at (Err f))

@@ -1,5 +1,8 @@
 -- The definitions of a file by number, and what stands behind them. Assumes nothing.
-use Rattle.std.proofs.Common.{◌≡◌, ℕ, zero, suc, ◌+◌, ◌<◌, ◌≤◌, List, length, Some, None, refl, ap, ◌∙◌, add-one, arith}
+use Rattle.std.proofs.Common.{◌≡◌, ℕ, zero, suc, ◌+◌, ◌<◌, ◌≤◌, List, ◌∷◌, [], length, Some, None, refl, sym, ap, ◌∙◌, add-one, arith}
+use Rattle.std.proofs.iter.Yields.{nat_range_steps}
+use Rattle.std.specs.Iterator.{Yields}
+use Rattle.std.specs.declared.ops.Range.{Range}
 use Rattle.orc.specs.Expressions.{entry}
 use Rattle.files.specs.Contents.{first_definition, behind_definition, definitions_of, behind_definitions}
 
@@ -29,3 +32,11 @@ pub count_of : (n : ℕ) (l : List ℕ) → length (definitions_of n l) ≡ n
 unfolding definitions_of
 count_of zero l = refl
 count_of (suc n) l = ap suc (count_of n (behind_definition l))
+
+-- what is left of a range that gave some numbers
+pub range_left : (xs : List ℕ) (s t : Range ℕ) → Yields nat_range_steps s xs t → s.start ≤ s.end → (t.end ≡ s.end) × (t.start ≡ s.start + length xs) × (t.start ≤ t.end)
+range_left [] s t is within = (sym (ap (λ r. r.end) is), omega (arith, ap (λ (r : Range ℕ). r.start) is), omega (arith, within, ap (λ (r : Range ℕ). r.start) is, ap (λ (r : Range ℕ). r.end) is))
+range_left (x ∷ xs) s t is within =
+    let next = is.1 in
+    let rest = range_left xs is.0 t is.2 (omega (arith, next.0, next.1.0, next.1.2)) in
+    (rest.0 ∙ next.0, omega (arith, rest.1, next.1.2), rest.2)

@@ -25,6 +25,10 @@ module _ (m : Meaning) (bs : List ℕ) (fit : Bytes bs) where
   its_contents : (file : File) → FileOutcome m bs (Ok file) → file ≡ file_of bs
   its_contents file accepted = sym (ap file_of (decoded m bs fit file accepted).1 ∙ file_back file)
 
+  -- no well-formed file has the bytes of one that is refused
+  pub not_encoded : {f : Fault} → FileOutcome m bs (Err f) → (file : File) → WellFormed m file → bs ≡ file_bytes file → ⊥
+  not_encoded {f} refused file ok is = not_both f file refused (encoded m bs file ok is)
+
   module _ {A : Type 0} where
     pub outcome : (r : Result A Fault) → MatchResult r (λ _. (file : File) × FileOutcome m bs (Ok file)) (λ f. FileOutcome m bs (Err f))
         → MatchResult r (λ _. FileOutcome m bs (Ok (file_of bs))) (λ f. FileOutcome m bs (Err f))
@@ -34,4 +38,4 @@ module _ (m : Meaning) (bs : List ℕ) (fit : Bytes bs) where
     pub verdict : (r : Result A Fault) → MatchResult r (λ _. FileOutcome m bs (Ok (file_of bs))) (λ f. FileOutcome m bs (Err f))
         → MatchResult r (λ _. WellFormed m (file_of bs) × (bs ≡ file_bytes (file_of bs))) (λ _. (file : File) → WellFormed m file → bs ≡ file_bytes file → ⊥)
     verdict (Ok _) accepted = decoded m bs fit (file_of bs) accepted
-    verdict (Err f) refused = λ file ok is. not_both f file refused (encoded m bs file ok is)
+    verdict (Err f) refused = not_encoded refused

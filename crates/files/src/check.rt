@@ -10,15 +10,12 @@ ghost use Rattle.files.specs.Scopes.{bits};
 
 use crate::scope::Scope;
 use crate::small::Small;
-use formats::fault::Fault;
+use formats::fault::{Fault, LONGEST};
 use formats::operands::read;
 use formats::widths::width;
 use forms::command::Command;
 use forms::mark::Mark;
 use hosts::host::Host;
-
-// How long a file may be, in bytes.
-const LONGEST: usize = 4096;
 
 // How many definitions it may have.
 const MOST_DEFINITIONS: u8 = 16;
@@ -42,8 +39,8 @@ fn read_small(bytes: &[u8], at: usize) -> Result<Small, Fault>
 }
 
 // The variable that the command at an offset binds.
-// Kept: that offsets are small, here and below, so that no sum with one overflows. A type of its own would be wrapped and
-// unwrapped at each operand.
+// Kept: that offsets are small, here and below, so that no sum with one overflows. A place, as the sheet's reader has one, would
+// be made anew for each parameter and each body, and would carry the judge and what is bound.
 fn read_binder(bytes: &[u8], at: usize) -> Result<Small, Fault>
     requires { at ≤ 4096 }
     ensures rules { ByRules (binder_rules bytes.now at) result }
@@ -197,37 +194,14 @@ impl<'a, H: Host> Judge<'a, H> {
     }
 
     // All definitions, and the offset behind them.
-    // Kept: a `for` that carries the offset on, which says what happens at each definition in its own line.
     fn definitions(&self) -> Result<usize, Fault>
         requires { 1 ≤ length self.now.bytes.now }
         ensures { MatchResult result
             (λ at. EndsIn (H.Host.meaning self.now.host.now) self.now.count self.now.bytes.now 0 at)
             (λ f. RestOutcome (H.Host.meaning self.now.host.now) self.now.count self.now.bytes.now self.now.count 1 (Err f)) }
     {
-        let mut at = 1;
-        for _ in 0..self.count {
-            at = self.definition(at)?;
-        }
-        Ok(at)
+        (0..self.count).try_fold(1, |at, _| self.definition(at))
     }
-}
-
-// The file, to its first fault.
-fn judge_file<H: Host>(host: &H, file: &[u8]) -> Result<(), Fault>
-    ensures { MatchResult result
-        (λ _. (x : File) × FileOutcome (H.Host.meaning host.now) file.now (Ok x))
-        (λ f. FileOutcome (H.Host.meaning host.now) file.now (Err f)) }
-{
-    if file.len() > LONGEST {
-        return Err(Fault::TooLong);
-    }
-    let judge = Judge {
-        host,
-        count: read_count(file)?,
-        bytes: file,
-    };
-    let at = judge.definitions()?;
-    judge.whole(Scope::empty(), at)
 }
 
 // Judges a file with a host: accepted, which is so exactly if the bytes are the encoding of a file that is well-formed over
@@ -240,5 +214,14 @@ pub fn check_file<H: Host>(host: &H, file: &[u8]) -> Result<(), Fault>
         (λ _. WellFormed (H.Host.meaning host.now) (file_of file.now) × (file.now ≡ file_bytes (file_of file.now)))
         (λ _. (x : File) → WellFormed (H.Host.meaning host.now) x → file.now ≢ file_bytes x) }
 {
-    judge_file(host, file)
+    if file.len() > LONGEST {
+        return Err(Fault::TooLong);
+    }
+    let judge = Judge {
+        host,
+        count: read_count(file)?,
+        bytes: file,
+    };
+    let at = judge.definitions()?;
+    judge.whole(Scope::empty(), at)
 }

@@ -46,21 +46,17 @@ fn split_definition<'a>(bytes: &'a [u8]) -> (&'a [u8], &'a [u8])
     ensures body { result.0.now ≡ body_bytes bytes.now }
     ensures behind { result.1.now ≡ behind_definition bytes.now }
 {
+    // Kept: two bytes, each of which is 0 where it is missing, as `Operand` does not read them.
     let size = u16::from_be_bytes([byte_or_zero(bytes, 1), byte_or_zero(bytes, 2)]);
     let rest = bytes_from(bytes, 3);
     rest.split_at(rest.len().min(usize::from(size)))
 }
 
 // What stands behind so many definitions of a file.
-// Kept: a `for` over what is left. A fold would name it twice.
 fn behind_definitions<'a>(file: &'a [u8], count: usize) -> &'a [u8]
     ensures { result.now ≡ behind_definitions count (drop 1 file.now) }
 {
-    let mut rest = bytes_from(file, 1);
-    for _ in 0..count {
-        rest = split_definition(rest).1;
-    }
-    rest
+    (0..count).fold(bytes_from(file, 1), |rest, _| split_definition(rest).1)
 }
 
 impl<'a> Contents<'a> {

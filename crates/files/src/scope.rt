@@ -14,7 +14,7 @@ pub(crate) struct Scope {
 
 impl Scope {
     // No variable.
-    // Kept: a name of its own, which says more than a default.
+    // Kept: not `Default`. The name says what the judge begins with.
     pub(crate) fn empty() -> Scope
         ensures { bits result.bound ≡ nothing_bound }
     {

@@ -13,6 +13,7 @@ pub(crate) struct Small {
 
 impl Small {
     // The number, if it is small.
+    // Kept: an `Option`, and not `TryFrom`. Both callers have a fault of their own, so an error from here would be dropped.
     pub(crate) fn new(number: u16) -> Option<Small>
         ensures { MatchOption result (31 < number) (λ s. (s.number ≡ number) × (number < 32)) }
     {

@@ -6,6 +6,7 @@ use std::alloc::AllocError;
 // The first `len` slots hold the items. What the others hold is of no account.
 //
 // It is `Copy`, so it has no model: one that forgets the unused slots could not be.
+// Kept: an array and a length. A library has no heap, and a sheet has to be `Copy`, which the toolchain's `arrayvec` is not.
 pub struct FixedList<T, const N: usize> {
     pub(crate) slots: [T; N],
     pub(crate) len: usize,

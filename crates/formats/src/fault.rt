@@ -5,8 +5,11 @@ ghost use Rattle.formats.specs.Faults.{told};
 
 use std::error::Error;
 use std::fmt;
-use verdicts::reason::Reason;
+use verdicts::reason::{Notice, Reason};
 use verdicts::verdict::Verdict;
+
+// How many bytes an input may have.
+pub const LONGEST: usize = 4096;
 
 #[derive(Clone, Copy, PartialEq, Eq, Debug)]
 pub enum Fault {
@@ -27,55 +30,26 @@ pub enum Fault {
 impl Reason for Fault {
     ghost told = { told };
 
-    fn number(&self) -> u8 {
-        match self {
-            Fault::CutShort(_) => 1,
-            Fault::UnknownCommand(_) => 2,
-            Fault::OperandBeyondRange(_) => 3,
-            Fault::NoSuchDefinition(_) => 4,
-            Fault::SiteUnknown(_) => 5,
-            Fault::FreeVariable(_) => 6,
-            Fault::TooLong => 7,
-            Fault::TrailingBytes(_) => 8,
-            Fault::WindowBeforeRow(_) => 9,
-            Fault::EmptyRow(_) => 10,
-            Fault::SecondBelowFirst(_) => 11,
-            Fault::TooMany(_) => 12,
-        }
-    }
-
-    // The offset of the byte that it is about.
-    fn place(&self) -> usize {
-        match self {
-            Fault::TooLong => 4096,
-            Fault::CutShort(at)
-            | Fault::UnknownCommand(at)
-            | Fault::OperandBeyondRange(at)
-            | Fault::NoSuchDefinition(at)
-            | Fault::SiteUnknown(at)
-            | Fault::FreeVariable(at)
-            | Fault::TrailingBytes(at)
-            | Fault::WindowBeforeRow(at)
-            | Fault::EmptyRow(at)
-            | Fault::SecondBelowFirst(at)
-            | Fault::TooMany(at) => *at,
-        }
-    }
-
-    fn name(&self) -> &'static str {
-        match self {
-            Fault::CutShort(_) => "Cut short",
-            Fault::UnknownCommand(_) => "Unknown command",
-            Fault::OperandBeyondRange(_) => "Operand beyond its range",
-            Fault::NoSuchDefinition(_) => "Definition number at or above the count",
-            Fault::SiteUnknown(_) => "Site unknown to the host",
-            Fault::FreeVariable(_) => "Free variable",
-            Fault::TooLong => "Over 4,096 bytes",
-            Fault::TrailingBytes(_) => "Bytes after a complete form",
-            Fault::WindowBeforeRow(_) => "Window before any row",
-            Fault::EmptyRow(_) => "Row without silence or window",
-            Fault::SecondBelowFirst(_) => "Second of a pair below the first",
-            Fault::TooMany(_) => "Row 65 or window 5 of a row",
+    // The place is the offset of the byte that it is about.
+    fn notice(&self) -> Notice {
+        let (number, place, name) = match *self {
+            Fault::CutShort(at) => (1, at, "Cut short"),
+            Fault::UnknownCommand(at) => (2, at, "Unknown command"),
+            Fault::OperandBeyondRange(at) => (3, at, "Operand beyond its range"),
+            Fault::NoSuchDefinition(at) => (4, at, "Definition number at or above the count"),
+            Fault::SiteUnknown(at) => (5, at, "Site unknown to the host"),
+            Fault::FreeVariable(at) => (6, at, "Free variable"),
+            Fault::TooLong => (7, LONGEST, "Over 4,096 bytes"),
+            Fault::TrailingBytes(at) => (8, at, "Bytes after a complete form"),
+            Fault::WindowBeforeRow(at) => (9, at, "Window before any row"),
+            Fault::EmptyRow(at) => (10, at, "Row without silence or window"),
+            Fault::SecondBelowFirst(at) => (11, at, "Second of a pair below the first"),
+            Fault::TooMany(at) => (12, at, "Row 65 or window 5 of a row"),
+        };
+        Notice {
+            number,
+            place,
+            name,
         }
     }
 }

@@ -35,6 +35,7 @@ impl Operand for u8 {
     }
 }
 
+// Kept: an implementation for each type, here and below. The library reads them by a function of each type, and by no trait.
 impl Operand for u16 {
     ghost width = { 2 };
 
@@ -56,7 +57,8 @@ impl Operand for u32 {
 }
 
 // The operand at an offset.
-// Kept: bytes and an offset, and not one value for both. Which operands of a command are read depends on those before.
+// Kept: bytes and an offset, and not a reader that moves on. A fault tells an operand's offset, or the length of all bytes, and a
+// reader would have to hold both.
 pub fn read<T: Operand>(bytes: &[u8], at: usize) -> Result<T, Fault>
     ensures { MatchResult result (λ n. (at + T.width ≤ length bytes.now) × (n ≡ T.number_at bytes.now at)) (λ f. (length bytes.now < at + T.width) × (f ≡ Fault.CutShort (length bytes.now))) }
 {

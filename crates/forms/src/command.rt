@@ -21,6 +21,7 @@ pub enum Command {
 }
 
 // A byte that no command of a form has.
+// Kept: an error of its own, which `TryFrom` needs. Its text says what the byte is not; a shared one would have to be told.
 #[derive(Clone, Copy, PartialEq, Eq, Debug)]
 pub struct NoCommand(pub u8);
 

@@ -10,6 +10,7 @@ use crate::ends::form_end;
 use crate::mark::Mark;
 use crate::pending::Pending;
 use crate::scan::{Rule, Whole};
+use formats::operands::Operand;
 
 // Bytes that are read as a form. What stands behind a complete form does not count, and where the bytes are no form, what
 // cannot be read is stop.
@@ -51,7 +52,7 @@ fn parameter_at(bytes: &[u8], at: usize) -> Parameter
     requires { at + 3 ≤ length bytes.now }
     ensures { parameter_of result ≡ parameter_at bytes.now at }
 {
-    let number = u16::from_be_bytes([bytes[at + 1], bytes[at + 2]]);
+    let number = u16::at(bytes, at + 1).unwrap();
     match Mark::try_from(bytes[at]) {
         Ok(Mark::Value) => Parameter::Value(number),
         _ => Parameter::Variable(number),
@@ -76,13 +77,11 @@ impl Parameter {
     pub fn is_variable(self, variable: u8) -> bool
         ensures { result ≡ is_variable variable (parameter_of self) }
     {
-        match self {
-            Parameter::Value(_) => false,
-            Parameter::Variable(x) => u16::from(variable) == x,
-        }
+        matches!(self, Parameter::Variable(x) if u16::from(variable) == x)
     }
 
     // Its bytes: the mark, and the number with the higher byte first.
+    // Kept: byte by byte. What joins arrays gives a `Vec`, and a library has no heap.
     pub fn to_bytes(self) -> [u8; 3]
         ensures { result ≡ parameter_bytes (parameter_of self) }
     {
@@ -174,11 +173,7 @@ impl<'a> Form<'a> {
                 let (f, g) = parts(&bytes[2..]);
                 Head::Pruning(bytes[1], f, g)
             }
-            // Kept: a match, since the borrow checker does not cover `map_or` with a variant whose type has a lifetime.
-            Command::Pending => match Pending::read(bytes, 0) {
-                Some(pending) => Head::Pending(pending),
-                None => Head::Stop,
-            },
+            Command::Pending => Head::Pending(Pending::read(bytes, 0).unwrap()),
         }
     }
 }

@@ -13,6 +13,7 @@ pub enum Mark {
 }
 
 // A byte that marks no parameter.
+// Kept: an error of its own, which `TryFrom` needs. Its text says what the byte is not; a shared one would have to be told.
 #[derive(Clone, Copy, PartialEq, Eq, Debug)]
 pub struct NoMark(pub u8);
 

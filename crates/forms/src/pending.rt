@@ -4,7 +4,7 @@ ghost use Rattle.orc.specs.Expressions.{pending, bytes as form_bytes};
 ghost use Rattle.forms.specs.Pendings.{pending_of, call_at, CallStands};
 
 use crate::command::Command;
-use formats::operands::bytes_at;
+use formats::operands::Operand;
 
 // A pending call: its ticket, its site, the value it was called with, and the clock of the call.
 #[derive(Clone, Copy, PartialEq, Eq, Debug)]
@@ -17,6 +17,7 @@ pub struct Pending {
 
 impl Pending {
     // Its form: the command, and each number with the highest byte first.
+    // Kept: byte by byte. What joins arrays gives a `Vec`, and a library has no heap.
     #[tactic(auto, unfolding(orc::specs::Expressions::bytes))]
     pub fn to_bytes(self) -> [u8; 12]
         ensures { result ≡ form_bytes (pending self.ticket self.site self.value self.clock) }
@@ -44,15 +45,14 @@ impl Pending {
     pub fn read(bytes: &[u8], at: usize) -> Option<Pending>
         ensures { MatchOption result (CallStands bytes.now at → ⊥) (λ p. CallStands bytes.now at × (pending_of p ≡ call_at bytes.now at)) }
     {
-        let [command, k0, k1, k2, k3, site, v0, v1, c0, c1, c2, c3] = bytes_at::<12>(bytes, at)?;
-        if command != Command::Pending as u8 {
+        if u8::at(bytes, at)? != Command::Pending as u8 {
             return None;
         }
         Some(Pending {
-            ticket: u32::from_be_bytes([k0, k1, k2, k3]),
-            site,
-            value: u16::from_be_bytes([v0, v1]),
-            clock: u32::from_be_bytes([c0, c1, c2, c3]),
+            ticket: u32::at(bytes, at + 1)?,
+            site: u8::at(bytes, at + 5)?,
+            value: u16::at(bytes, at + 6)?,
+            clock: u32::at(bytes, at + 8)?,
         })
     }
 }

@@ -18,6 +18,7 @@ const OVERLAP: [u8; 47] = [
 const REFUSED: [u8; 7] = [0x10, 1, 0, 0, 0, 9, 0];
 
 // All that a host says of a call, on one line.
+// Kept: site and value apart. Each of the questions to the host, whose trait is public, takes them so.
 fn show<H: Host>(rt: &HostRuntime, name: &str, host: &H, site: u8, value: u16) -> io::Result<()> {
     let known = host.knows(site);
     let count = host.window_count(site, value);

@@ -3,8 +3,10 @@ ghost use Rattle.std.specs.Prelude.{◌≡◌, length};
 ghost use Rattle.orc.specs.Meaning.{Meaning, Lawful, handle, is_known};
 ghost use Rattle.hosts.specs.Answers.{ticks_at, values_at};
 
-// Kept: site, value and number as they are, and the two ends of a window in pairs. A host answers what it is asked, and its caller
-// needs no type of its own for the question.
+pub use sheets::row::NO_END;
+
+// Kept: site, value and number as they are, and the two ends of a window in pairs. The trait is public, and who writes a host or
+// asks one would have to make a type first.
 pub trait Host {
     // What each site can reply to each value, and when. It stays as it is for the life of a run.
     ghost meaning: { Self → Meaning };

@@ -24,6 +24,7 @@ pub enum LocalSite {
 }
 
 // A number that no local site has.
+// Kept: an error of its own, which `TryFrom` needs. Its text says what the number is not; a shared one would have to be told.
 #[derive(Clone, Copy, PartialEq, Eq, Debug)]
 pub struct NoLocalSite(pub u8);
 
@@ -115,7 +116,7 @@ impl Host for Local {
     }
 
     fn window_count(&self, site: u8, value: u16) -> usize {
-        reply_of(site, value).map_or(0, |_| 1)
+        usize::from(reply_of(site, value).is_some())
     }
 
     fn ticks(&self, site: u8, value: u16, number: usize) -> Option<(u32, u32)> {

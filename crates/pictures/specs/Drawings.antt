@@ -1,5 +1,5 @@
 -- The picture of a run: its scale, its first line, and what is said of an ending. Assumes nothing.
-use Rattle.std.specs.Prelude.{◌≡◌, ℕ, ◌*◌, ◌<◌, ◌≤◌, List, ◌++◌, codes, decimal, nat_lt, find, unwrap_or}
+use Rattle.std.specs.Prelude.{◌≡◌, ℕ, ◌*◌, ◌<◌, ◌≤◌, List, ◌++◌, Option, Some, None, codes, decimal, nat_lt, find, unwrap_or}
 use Rattle.pictures.specs.declared.lane.Ending.{Ending}
 use Rattle.pictures.specs.declared.lane.Ending.TheVariants.{Answered, Withdrawn, Lapsed, Standing}
 use Rattle.pictures.specs.declared.lane.Lane.{Lane}
@@ -22,13 +22,21 @@ pub record Scale (clock ticks : ℕ) : Type 0 where
 abbrev pub first_fit : ℕ → List ℕ → ℕ
 first_fit clock steps = unwrap_or (find (λ ticks. nat_lt clock (60 * ticks)) steps) 100000000
 
--- the character that ends a bar, and what is said in words
+-- the character that ends a bar
 abbrev pub mark_of : Ending → List ℕ
 mark_of (Answered v at) = codes "x"
 mark_of (Withdrawn at) = codes "/"
 mark_of (Lapsed at) = codes "!"
 mark_of Standing = codes ">"
 
+-- the tick of an ending, if there is one
+abbrev pub tick_of : Ending → Option ℕ
+tick_of (Answered v at) = Some at
+tick_of (Withdrawn at) = Some at
+tick_of (Lapsed at) = Some at
+tick_of Standing = None
+
+-- what is said of an ending in words
 abbrev pub ending_text : Ending → List ℕ
 ending_text (Answered v at) = codes "answered " ++ (decimal v ++ (codes " at " ++ decimal at))
 ending_text (Withdrawn at) = codes "withdrawn at " ++ decimal at

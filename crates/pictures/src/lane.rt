@@ -1,6 +1,6 @@
 // What a picture shows: the calls of sites, each with its ticket, and the publications.
 ghost use Rattle.std.specs.Prelude.{◌≡◌, Some};
-ghost use Rattle.pictures.specs.Drawings.{mark_of, ending_text, label_text, value_text};
+ghost use Rattle.pictures.specs.Drawings.{mark_of, tick_of, ending_text, label_text, value_text};
 
 use std::fmt;
 
@@ -45,7 +45,9 @@ impl Ending {
     }
 
     // The tick of the end, or none while the call stands.
-    pub(crate) fn tick(&self) -> Option<u32> {
+    pub(crate) fn tick(&self) -> Option<u32>
+        ensures { result ≡ tick_of self.now }
+    {
         match self {
             Ending::Answered { at, .. } | Ending::Withdrawn { at } | Ending::Lapsed { at } => {
                 Some(*at)

@@ -18,7 +18,7 @@ const COUNTS: &str = "\n* published once  2 to 9 so often  + more often\n";
 
 // The calls and the publications of a run whose clock stands at a tick, drawn to a scale. It begins with the scale and the
 // clock, or says that there is nothing to show.
-// Kept: three parameters. A struct of them would be made here, and taken apart again in `drawn`.
+// Kept: three parameters. The function is public; a struct made of them here would be taken apart again in `drawn`.
 pub fn picture(
     heap: Global,
     lanes: &[Lane],
@@ -35,6 +35,7 @@ pub fn picture(
 }
 
 // A picture with its heading.
+// Kept: lines that are made to be appended. Each function that wrote behind the heading would have to promise that it keeps it.
 fn drawn(
     heap: Global,
     lanes: &[Lane],
@@ -197,6 +198,7 @@ fn count_at(publications: &[Publication], spacing: Spacing, at: u8) -> usize {
 }
 
 // The mark of a column with so many publications.
+// Kept: a digit by its code. `char::from_digit` gives an `Option`, which would never be none.
 fn count_mark(count: usize) -> char {
     match count {
         0 => ' ',

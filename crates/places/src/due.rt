@@ -31,6 +31,8 @@ pub fn due_count(form: Form) -> usize
 }
 
 // Where a call with this parameter is the due call n, or else how many due calls it is.
+// Kept: a count as the error, here and below, as a binary search has the place where it stopped. In closures the two parts would
+// nest.
 fn seek_here(parameter: Parameter, n: usize) -> Result<usize, usize>
     ensures { MatchResult result (λ p. (n < ready (parameter_of parameter)) × (p ≡ 0)) (λ m. (m ≡ ready (parameter_of parameter)) × (m ≤ n)) }
 {
@@ -39,7 +41,6 @@ fn seek_here(parameter: Parameter, n: usize) -> Result<usize, usize>
 }
 
 // The offset of the due call n of a form, or else how many due calls there are.
-// Kept: a count as the error, as a binary search has the place where it stopped. In closures the two parts would nest.
 fn seek(form: Form, n: usize) -> Result<usize, usize>
     ensures { MatchResult result (EndsAt form.entry.bytes.now n) (PassesAll form.entry.bytes.now n) }
 {
@@ -64,6 +65,7 @@ fn seek(form: Form, n: usize) -> Result<usize, usize>
 }
 
 // The offset of the due call n of a form, counted from the left, from 0.
+// Kept: that the bytes are a form is a premise, here and in the other searches. They take any bytes, and promise more of a form.
 pub fn due_place(form: Form, n: usize) -> Option<usize>
     ensures place { IsForm form.entry.bytes.now → result ≡ due_place n (expression form.entry) }
     ensures found { is_some result ≡ nat_lt n (due_count (expression form.entry)) }

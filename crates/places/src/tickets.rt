@@ -59,6 +59,7 @@ impl<'a> Iterator for PendingCalls<'a> {
 }
 
 // The pending calls that a scan of a form meets from an offset on.
+// Kept: that a whole call stands at each place is said here and below. A `Placed` borrows no bytes of which its type could say it.
 pub fn pending_calls_from(form: Form, from: usize) -> PendingCalls
     ensures placed { placed_left result ≡ placed_from form.entry.bytes.now from }
     ensures within { All (λ p. p.place + 12 ≤ length form.entry.bytes.now) (placed_left result) }

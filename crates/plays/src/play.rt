@@ -20,7 +20,7 @@ pub fn play<H: Host + Copy>(
 {
     let (mut run, judged) = Run::begin(host, file);
     let mut responses = Vec::new(heap);
-    // Kept: a loop that pushes. Each call changes the run, and the next one finds it so.
+    // Kept: a loop that pushes. Collected from a `map`, whose closure changes the run, nothing is known of the run afterwards.
     for call in calls {
         responses.push(run.make(*call))?;
     }

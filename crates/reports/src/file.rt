@@ -57,9 +57,8 @@ pub fn file_report_with_sheet(
 // The definitions and the goal.
 fn trees(heap: Global, contents: Contents<'_>) -> Result<String, AllocError> {
     let mut text = String::new(heap);
-    let numbers = 0..contents.definition_count();
-    for (number, definition) in numbers.filter_map(|n| contents.definition(n)).enumerate() {
-        let Definition { formal, body } = definition;
+    for number in 0..contents.definition_count() {
+        let Definition { formal, body } = contents.definition(number).unwrap();
         writeln!(text, "\ndefinition {number} of variable {formal}")?;
         add_tree(&mut text, body, 1)?;
     }

@@ -2,11 +2,9 @@
 ghost use Rattle.std.specs.Prelude.{◌≡◌, Some};
 ghost use Rattle.reports.specs.Ranges.{range_text, ages_text};
 
+use hosts::host::NO_END;
 use sheets::row::Window;
 use std::fmt;
-
-// The latest age of a window without an end.
-const NO_END: u32 = u32::MAX;
 
 const MILLIS_PER_TICK: u8 = 10;
 

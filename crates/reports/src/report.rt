@@ -27,6 +27,8 @@ impl fmt::Display for Report {
 
 impl Report {
     // The report on bytes that are accepted: the verdict, and then what they say.
+    // Kept: a text that is made to be appended, here and in the other reports. Each function that wrote into the report's own text
+    // would have to promise that it keeps what stands before.
     pub(crate) fn acceptance(heap: Global, contents: &str) -> Result<Report, AllocError>
         ensures { IfOk result (λ t. Begins (codes "accepted\n") (string_bytes t.text) × (t.accepted ≡ true)) }
     {

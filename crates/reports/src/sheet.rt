@@ -125,6 +125,7 @@ fn command_at(bytes: &[u8], place: usize) -> usize {
 }
 
 // The offset behind the command at an offset, if there is one.
+// Kept: beside `behind_command` of `places`, by which the whole command is there. Here the last one may be cut short.
 fn next_command(bytes: &[u8], at: usize) -> Option<usize>
     ensures { IfSome result (λ next. (at < length bytes.now) × (at < next)) }
 {

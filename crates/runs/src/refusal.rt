@@ -5,7 +5,7 @@ ghost use Rattle.runs.specs.Refusals.{told, is_limit};
 
 use std::error::Error;
 use std::fmt;
-use verdicts::reason::Reason;
+use verdicts::reason::{Notice, Reason};
 use verdicts::verdict::Verdict;
 
 #[derive(Clone, Copy, PartialEq, Eq, Debug)]
@@ -24,45 +24,23 @@ pub enum Refusal {
 impl Reason for Refusal {
     ghost told = { told };
 
-    fn number(&self) -> u8 {
-        match self {
-            Refusal::NotLoaded => 21,
-            Refusal::NoneDue(_) => 22,
-            Refusal::NotStanding(_) => 23,
-            Refusal::OutsideEveryWindow(_) => 24,
-            Refusal::DueFirst(_) => 25,
-            Refusal::Overdue(_) => 26,
-            Refusal::ClockEnd(_) => 27,
-            Refusal::Outgrown(_) => 28,
-            Refusal::RecordFull => 29,
-        }
-    }
-
-    // The count, ticket, clock or size that it is about.
-    fn place(&self) -> usize {
-        match self {
-            Refusal::NotLoaded => 0,
-            Refusal::NoneDue(due) | Refusal::DueFirst(due) => *due,
-            Refusal::NotStanding(ticket)
-            | Refusal::OutsideEveryWindow(ticket)
-            | Refusal::Overdue(ticket) => *ticket as usize,
-            Refusal::ClockEnd(clock) => *clock as usize,
-            Refusal::Outgrown(size) => *size,
-            Refusal::RecordFull => 512,
-        }
-    }
-
-    fn name(&self) -> &'static str {
-        match self {
-            Refusal::NotLoaded => "Not loaded",
-            Refusal::NoneDue(_) => "None due",
-            Refusal::NotStanding(_) => "Not standing",
-            Refusal::OutsideEveryWindow(_) => "Outside every window",
-            Refusal::DueFirst(_) => "Due first",
-            Refusal::Overdue(_) => "Overdue",
-            Refusal::ClockEnd(_) => "Clock end",
-            Refusal::Outgrown(_) => "Outgrown",
-            Refusal::RecordFull => "Record full",
+    // The place is the count, ticket, clock or size that it is about.
+    fn notice(&self) -> Notice {
+        let (number, place, name) = match *self {
+            Refusal::NotLoaded => (21, 0, "Not loaded"),
+            Refusal::NoneDue(due) => (22, due, "None due"),
+            Refusal::NotStanding(ticket) => (23, ticket as usize, "Not standing"),
+            Refusal::OutsideEveryWindow(ticket) => (24, ticket as usize, "Outside every window"),
+            Refusal::DueFirst(due) => (25, due, "Due first"),
+            Refusal::Overdue(ticket) => (26, ticket as usize, "Overdue"),
+            Refusal::ClockEnd(clock) => (27, clock as usize, "Clock end"),
+            Refusal::Outgrown(size) => (28, size, "Outgrown"),
+            Refusal::RecordFull => (29, 512, "Record full"),
+        };
+        Notice {
+            number,
+            place,
+            name,
         }
     }
 }

@@ -24,6 +24,7 @@ pub(crate) trait Operand: FromStr<Err = ParseIntError> + Copy {
     ghost reads: { Reads MOST value Self.from_str_gives };
 }
 
+// Kept: an implementation for each type, here and below. The library says of each type apart what its text is read as.
 impl Operand for u32 {
     const MOST: u32 = u32::MAX;
 

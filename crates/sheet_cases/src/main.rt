@@ -6,6 +6,7 @@ use sheets::rows::check_sheet;
 use std::alloc::{AllocError, Global};
 use std::io;
 
+// Kept: here and below, the cases write what they give by hand, and not by the code that they try.
 const NO_END: u32 = 4_294_967_295;
 
 fn row(site: u8, first: u16, last: u16, silence: u8) -> [u8; 7] {
@@ -30,7 +31,7 @@ fn many(heap: Global, rows: usize, windows: usize) -> Result<Vec<u8>, AllocError
 }
 
 // What comes of a sheet that is given in parts.
-// Kept: `file_cases` prints such a line of a file. They are two lines in two programs, and no third needs them.
+// Kept: `file_cases` prints such a line of a file. One function for both would need a crate of its own for a match of two arms.
 fn show(rt: &HostRuntime, name: &str, parts: &[&[u8]]) -> io::Result<()> {
     let bytes = parts.concat(rt.alloc())?;
     let length = bytes.len();

@@ -61,16 +61,16 @@ sound_sheet rs = nat_le (length rs) 64 && every sound_row rs
 abbrev pub row_at : List ℕ → ℕ → SheetRow
 row_at bs at = record { site = byte_at bs (at + 1); first = two_at bs (at + 2); last = two_at bs (at + 4); silent = (byte_at bs (at + 6) == 1); windows = [] }
 
+-- The two ends of a range of numbers, in order. They stand at two offsets, and end at a third.
+abbrev pub range_rules : List ℕ → ℕ → ℕ → ℕ → List Rule
+range_rules bs first last end = reaches_to bs last ∷ reaches_to bs end ∷ record { kept = nat_le (two_at bs first) (two_at bs last); fault = SecondBelowFirst last } ∷ []
+
 abbrev pub row_rules : List ℕ → ℕ → List Rule
 row_rules bs at =
     reaches_to bs (at + 2)
     ∷ record { kept = nat_le (byte_at bs (at + 1)) 27; fault = OperandBeyondRange (at + 1) }
-    ∷ reaches_to bs (at + 4)
-    ∷ reaches_to bs (at + 6)
-    ∷ record { kept = nat_le (two_at bs (at + 2)) (two_at bs (at + 4)); fault = SecondBelowFirst (at + 4) }
-    ∷ reaches_to bs (at + 7)
-    ∷ record { kept = nat_le (byte_at bs (at + 6)) 1; fault = OperandBeyondRange (at + 6) }
-    ∷ []
+    ∷ range_rules bs (at + 2) (at + 4) (at + 6)
+    ++ (reaches_to bs (at + 7) ∷ record { kept = nat_le (byte_at bs (at + 6)) 1; fault = OperandBeyondRange (at + 6) } ∷ [])
 
 -- the window whose command stands at an offset
 abbrev pub window_at : List ℕ → ℕ → Window
@@ -82,10 +82,7 @@ window_rules bs at =
     ∷ record { kept = nat_le (four_at bs (at + 1)) 4294967294; fault = OperandBeyondRange (at + 1) }
     ∷ reaches_to bs (at + 9)
     ∷ record { kept = nat_le (four_at bs (at + 1)) (four_at bs (at + 5)); fault = SecondBelowFirst (at + 5) }
-    ∷ reaches_to bs (at + 11)
-    ∷ reaches_to bs (at + 13)
-    ∷ record { kept = nat_le (two_at bs (at + 9)) (two_at bs (at + 11)); fault = SecondBelowFirst (at + 11) }
-    ∷ []
+    ∷ range_rules bs (at + 9) (at + 11) (at + 13)
 
 abbrev pub with_window : SheetRow → Window → SheetRow
 with_window r w = record { site = r.site; first = r.first; last = r.last; silent = r.silent; windows = r.windows ++ (w ∷ []) }

@@ -1,25 +1,18 @@
 // Reads a sheet, command by command, to its first fault.
-ghost use Rattle.std.specs.Prelude.{◌≡◌, ◌<◌, ◌≤◌, false, length, Some, None, Ok, Err, MatchResult};
-ghost use Rattle.formats.specs.Operands.{byte_at, first_broken};
-ghost use Rattle.sheets.specs.Format.{row_at, row_rules, window_at, window_rules, says_something, newest_done, CommandOutcome, SheetOutcome};
+ghost use Rattle.std.specs.Prelude.{◌≡◌, ◌+◌, ◌<◌, ◌≤◌, false, length, Some, None, Ok, Err, MatchResult};
+ghost use Rattle.formats.specs.Operands.{byte_at, two_at, first_broken};
+ghost use Rattle.sheets.specs.Format.{range_rules, row_at, row_rules, window_at, window_rules, says_something, newest_done, CommandOutcome, SheetOutcome};
 ghost use Rattle.sheets.specs.Rows.{row_of, rows_of, window_of, newest_first};
 
 use crate::command::Command;
-use crate::row::{MOST_ROWS, Row, Window, no_rows};
+use crate::row::{MOST_ROWS, NO_END, Row, Window, no_rows};
 use fixed::list::FixedList;
-use formats::fault::Fault;
+use formats::fault::{Fault, LONGEST};
 use formats::operands::read;
 use formats::widths::width;
 
-// How many bytes the command of a row has.
-const ROW_WIDTH: usize = 7;
-
-// The limits of a sheet, beside those of its rows and windows.
-const LONGEST: usize = 4096;
-
+// The limit of a row's site.
 const LAST_SITE: u8 = 27;
-
-const LAST_EARLIEST: u32 = 4_294_967_294;
 
 // Where a command stands in the bytes of a sheet.
 #[derive(Clone, Copy)]
@@ -28,6 +21,20 @@ struct Place<'a> {
     at: usize,
     ghost within: { at < length bytes.now },
     ghost short: { length bytes.now ≤ 4096 },
+}
+
+// The two ends of a range of numbers, in order. They stand at an offset, one behind the other.
+// Kept: that the offset is small, so that no sum with it overflows. A `Place` has that of a command, and not of an operand.
+fn read_range(bytes: &[u8], at: usize) -> Result<(u16, u16), Fault>
+    requires { at ≤ 8192 }
+    ensures { MatchResult result (λ r. (first_broken (range_rules bytes.now at (at + 2) (at + 4)) ≡ None) × (r.0 ≡ two_at bytes.now at) × (r.1 ≡ two_at bytes.now (at + 2))) (λ f. first_broken (range_rules bytes.now at (at + 2) (at + 4)) ≡ Some f) }
+{
+    let first = read::<u16>(bytes, at)?;
+    let last = read::<u16>(bytes, at + 2)?;
+    if last < first {
+        return Err(Fault::SecondBelowFirst(at + 2));
+    }
+    Ok((first, last))
 }
 
 impl Place<'_> {
@@ -40,11 +47,8 @@ impl Place<'_> {
         if site > LAST_SITE {
             return Err(Fault::OperandBeyondRange(at + 1));
         }
-        let first = read::<u16>(bytes, at + 2)?;
-        let last = read::<u16>(bytes, at + 4)?;
-        if last < first {
-            return Err(Fault::SecondBelowFirst(at + 4));
-        }
+        let (first, last) = read_range(bytes, at + 2)?;
+        // Kept: a match on the byte. It is read here alone, and an enum with an error of its own would be made for this one match.
         let silent = match read::<u8>(bytes, at + 6)? {
             0 => false,
             1 => true,
@@ -59,18 +63,14 @@ impl Place<'_> {
     {
         let Place { bytes, at } = *self;
         let earliest = read::<u32>(bytes, at + 1)?;
-        if earliest > LAST_EARLIEST {
+        if earliest == NO_END {
             return Err(Fault::OperandBeyondRange(at + 1));
         }
         let latest = read::<u32>(bytes, at + 5)?;
         if latest < earliest {
             return Err(Fault::SecondBelowFirst(at + 5));
         }
-        let lowest = read::<u16>(bytes, at + 9)?;
-        let highest = read::<u16>(bytes, at + 11)?;
-        if highest < lowest {
-            return Err(Fault::SecondBelowFirst(at + 11));
-        }
+        let (lowest, highest) = read_range(bytes, at + 9)?;
         Ok(Window {
             earliest,
             latest,
@@ -97,15 +97,13 @@ impl Place<'_> {
         ensures { CommandOutcome self.now.bytes.now self.now.at (newest_first rows.old) (newest_first rows.new) result }
     {
         if !newest_done(rows) {
-            return Err(Fault::EmptyRow(self.at - ROW_WIDTH));
+            return Err(Fault::EmptyRow(self.at - Command::Row.width()));
         }
         if rows.is_full() {
             return Err(Fault::TooMany(self.at));
         }
         let row = self.row()?;
-        let Ok(()) = rows.push(row) else {
-            unreachable!()
-        };
+        rows.push(row).unwrap();
         Ok(())
     }
 
@@ -118,9 +116,7 @@ impl Place<'_> {
             return Err(Fault::TooMany(self.at));
         }
         let window = self.window()?;
-        let Ok(()) = row.windows.push(window) else {
-            unreachable!()
-        };
+        row.windows.push(window).unwrap();
         rows.replace_last(row);
         Ok(())
     }
@@ -158,7 +154,7 @@ pub(crate) fn read_rows(bytes: &[u8]) -> Result<FixedList<Row, MOST_ROWS>, Fault
         at += width(bytes[at]);
     }
     if !newest_done(&rows) {
-        return Err(Fault::EmptyRow(at - ROW_WIDTH));
+        return Err(Fault::EmptyRow(at - Command::Row.width()));
     }
     Ok(rows)
 }

@@ -10,8 +10,11 @@ pub(crate) const MOST_ROWS: usize = 64;
 // How many windows a row can have.
 pub(crate) const MOST_WINDOWS: usize = 4;
 
-// One chance of a reply: ages in ticks and values, all four ends included. A latest age of 4,294,967,295 means no end.
+// The latest age of a window that has no end.
 // Kept: a number for no end, as the sheet has it. It is not below any earliest age, so ages stay in order.
+pub const NO_END: u32 = u32::MAX;
+
+// One chance of a reply: ages in ticks and values, all four ends included.
 #[derive(Clone, Copy, PartialEq, Eq, Default, Debug)]
 pub struct Window {
     pub earliest: u32,

@@ -16,6 +16,7 @@ pub struct Rows {
 }
 
 // No rows.
+// Kept: by hand. A list in fixed memory has no default, since it is given what lies in its unused places.
 impl Default for Rows {
     ghost is_default = { λ rows. rows_of rows.list ≡ [] };
 
@@ -46,6 +47,6 @@ pub fn read_sheet(bytes: &[u8]) -> Result<Rows, Fault>
 pub fn check_sheet(bytes: &[u8]) -> Result<(), Fault>
     ensures { MatchResult result (λ _. (rows : List SheetRow) × SheetOutcome bytes.now (Ok rows)) (λ f. SheetOutcome bytes.now (Err f)) }
 {
-    read_rows(bytes)?;
+    read_sheet(bytes)?;
     Ok(())
 }

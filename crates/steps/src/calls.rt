@@ -38,8 +38,8 @@ fn call_site(form: Form, place: usize, call: Pending) -> Option<Step>
 
 // Makes the definition call with a value at a place of a form, if the definition is there: it becomes the definition's body
 // with the value for its formal.
-// Kept: a form and a place apart, here and in the other transitions. Nothing holds of a place alone; that a whole command
-// stands there is the type of a `Section`.
+// Kept: a form and a place apart, here and above. Each makes a section of them in its first line, and a type before that would
+// hold the same two for that one line. Contents, number and value come from three places.
 fn unfold(form: Form, place: usize, contents: Contents, number: u8, value: u16) -> Option<Step>
     requires { definition_call number (value_of value) ≡ expression_of (drop place form.bytes.now) }
     ensures { (t k : ℕ) → CallOutcome (file_of contents.entry.bytes.now).definitions t k form.entry.bytes.now place result }
@@ -61,6 +61,7 @@ fn unfold(form: Form, place: usize, contents: Contents, number: u8, value: u16) 
 // Makes the due call at a place of a form: a site call becomes a pending call with the ticket and the clock, a definition
 // call the definition's body with the value for its formal. All other bytes stay. There is none if nothing due stands there,
 // if it calls a definition that there is not, or if there is no room.
+// Kept: five parameters. It is public, and ticket and clock are a part of a pending call only once its site is known.
 pub fn make_call(
     form: Form,
     place: usize,

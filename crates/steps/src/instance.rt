@@ -8,6 +8,7 @@ use walks::buffer::Buffer;
 use walks::copies::substitute_into;
 
 // An instance of a form: the form with a value in the free places of a variable.
+// Kept: variable and value here, and not the `Change` of `walks`. `substitute_into` is public, and takes them as they are.
 #[derive(Clone, Copy)]
 pub(crate) struct Instance<'a> {
     pub(crate) form: Form<'a>,

@@ -1,21 +1,42 @@
 // The reasons for which an input or a call is refused.
 ghost use Rattle.std.specs.Prelude.{◌≡◌};
-ghost use Rattle.verdicts.specs.Verdicts.{Told};
+ghost use Rattle.verdicts.specs.Verdicts.{Told, told_by};
 
-// A reason for a refusal. It has a number, which mechanics know it by, a place, and a name in words.
+// What is told of a reason: the number that a mechanic looks up, what it is about (an offset, a count, a ticket, a clock or a
+// size), and its name in words.
+#[derive(Clone, Copy, Debug)]
+pub struct Notice {
+    pub number: u8,
+    pub place: usize,
+    pub name: &'static str,
+}
+
+// A reason for a refusal.
 pub trait Reason {
     // All that is told of it.
     ghost told: { Self → Told };
 
+    fn notice(&self) -> Notice
+        ensures { told_by result ≡ told self.now };
+
     // The number that a mechanic looks up.
-    fn number(&self) -> u8
-        ensures { result ≡ (told self.now).number };
+    final fn number(&self) -> u8
+        ensures { result ≡ (told self.now).number }
+    {
+        self.notice().number
+    }
 
     // What it is about: an offset, a count, a ticket, a clock or a size.
-    fn place(&self) -> usize
-        ensures { result ≡ (told self.now).place };
+    final fn place(&self) -> usize
+        ensures { result ≡ (told self.now).place }
+    {
+        self.notice().place
+    }
 
     // Its name in words.
-    fn name(&self) -> &'static str
-        ensures { result.now ≡ (told self.now).name };
+    final fn name(&self) -> &'static str
+        ensures { result.now ≡ (told self.now).name }
+    {
+        self.notice().name
+    }
 }

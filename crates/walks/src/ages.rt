@@ -5,10 +5,7 @@ ghost use Rattle.orc.specs.Meaning.{handle, reaches, admits, within_reach, can_s
 ghost use Rattle.walks.specs.Ages.{window_of, passes_at};
 
 use forms::pending::Pending;
-use hosts::host::Host;
-
-// The latest age of a window that has no end.
-pub(crate) const NO_END: u32 = u32::MAX;
+use hosts::host::{Host, NO_END};
 
 // Whether a window with these ticks reaches a tick, for a call made at the tick `since`. The window's values do not matter.
 fn reaches(ticks: (u32, u32), since: u32, tick: u64) -> bool
@@ -19,7 +16,7 @@ fn reaches(ticks: (u32, u32), since: u32, tick: u64) -> bool
 }
 
 // Whether a window with these ticks and values admits a reply at a tick.
-// Kept: five numbers, in the pairs that a host tells. A struct would be filled at the one call and read once.
+// Kept: the pairs that a host tells, and the numbers of the question. A struct would be filled at the one call and read once.
 fn admits(ticks: (u32, u32), values: (u16, u16), since: u32, tick: u64, reply: u16) -> bool
     ensures { result ≡ admits since tick reply (window_of ticks values) }
 {
@@ -31,6 +28,8 @@ fn admits(ticks: (u32, u32), values: (u16, u16), since: u32, tick: u64, reply: u
 }
 
 // Whether the window of a number, if there is one, reaches a tick.
+// Kept: host, call and tick apart, here and below. A call is one thing, and is asked about at many ticks; a struct of the three
+// would be made for each question.
 fn window_reaches<H: Host>(host: &H, call: Pending, number: usize, tick: u64) -> bool
     ensures { result ≡ passes_at (reaches call.clock tick) (handle (H.Host.meaning host.now) call.site call.value).windows number }
 {

@@ -17,7 +17,5 @@ pub(crate) fn add(out: &mut Buffer, bytes: &[u8])
     ensures content { content out.new ≡ content out.old ++ bytes.now }
     ensures len { length (content out.new) ≡ length (content out.old) + length bytes.now }
 {
-    let Ok(()) = out.extend_from_slice(bytes) else {
-        unreachable!()
-    };
+    out.extend_from_slice(bytes).unwrap();
 }

@@ -34,6 +34,8 @@ fn changed_parameter(change: Option<Change>, parameter: Parameter) -> Parameter
 }
 
 // Writes a form for which there is room, with a change or none.
+// Kept: that there is room is asked here, in `settle` and in what they call. How much is needed differs from call to call, so no
+// type of a buffer can hold it.
 pub(crate) fn put(out: &mut Buffer, form: Form, change: Option<Change>)
     requires { HasRoom out.old (size (expression form)) }
     ensures content { content out.new ≡ content out.old ++ form_bytes (changed change (expression form.entry)) }
@@ -41,6 +43,7 @@ pub(crate) fn put(out: &mut Buffer, form: Form, change: Option<Change>)
 {
     match head_of(form) {
         Head::Stop => add(out, &[Command::Stop as u8]),
+        // Kept: an arm for each call. In one for both a site would be renamed a number, and the command be asked of the head again.
         Head::SiteCall { site, parameter } => put_call(
             out,
             Command::SiteCall,

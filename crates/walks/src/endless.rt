@@ -1,8 +1,7 @@
 // A host by which no call ever lapses: each has one window, which has no end.
 ghost use Rattle.walks.specs.Endless.{endless, endless_lawful};
 
-use crate::ages::NO_END;
-use hosts::host::Host;
+use hosts::host::{Host, NO_END};
 
 #[derive(Clone, Copy)]
 pub struct Endless;

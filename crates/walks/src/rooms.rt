@@ -18,6 +18,7 @@ fn own_width(head: Head) -> usize
 }
 
 // The head of a form, with the size of the whole.
+// Kept: beside `Form::head`. What it adds, of which three functions here make use, is promised once, and costs no code.
 pub(crate) fn head_of<'a>(form: Form<'a>) -> Head<'a>
     ensures expression { headed result ≡ expression form.entry }
     ensures longer { Longer (length form.entry.bytes.now) result }

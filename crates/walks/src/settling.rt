@@ -26,6 +26,7 @@ fn stops_from(out: &Buffer, at: usize) -> bool
 }
 
 // Of the bytes from `start` on, keeps those from `from` up to `end` only.
+// Kept: offsets, here and below. Each of the three asks for other ones, and would take a struct of them apart in its first line.
 fn keep_part(out: &mut Buffer, start: usize, from: usize, end: usize)
     requires { (start ≤ from) × (from ≤ end) × (end ≤ length (content out.old)) }
     ensures content { content out.new ≡ take start (content out.old) ++ between from end (content out.old) }
@@ -47,9 +48,9 @@ fn close_parallel(out: &mut Buffer, start: usize, middle: usize)
     }
 }
 
-// Kept: beside `close_parallel`, not one function with it. Only here the left part is asked about its variable.
 // Simplifies the pruning that stands last in a buffer, likewise: with a stop on the right it becomes its left part, if its
 // variable is not free there.
+// Kept: beside `close_parallel`, not one function with it. Only here the left part is asked about its variable.
 fn close_pruning(out: &mut Buffer, variable: u8, start: usize, middle: usize)
     requires { (start + 2 < middle) × (middle < length (content out.old)) }
     ensures content { (o : List ℕ) (f g : Expression) → length o ≡ start → length o + 2 + size f ≡ middle → content out.old ≡ o ++ form_bytes (pruning variable f g) → content out.new ≡ o ++ form_bytes (pruning_of variable f g) }

@@ -14,18 +14,18 @@ pub count-requires : goal.count-requires
 count-requires c =
     let x = c.requires in
     let p = c.args.self.now in
-    let gone = withdrawn_with c.args.ticket (content p.form) c.args.reply.now.pruned in
+    let gone = withdrawn_with c.args.call.ticket (content p.form) c.args.reply.now.pruned in
     subst (λ site. (site < 32) × (amount Answered (totals_at p.table site) < 65535)) x.names.has_site
-    (first_has_room p.table Answered x.names.call [] (room_answered x.meaning x.laws p c.args.ticket x.value (act_of c.args.reply.now.step.act) gone x.left (content c.args.form.now) x.may x.names.call x.names.stands x.names.has_ticket))
+    (first_has_room p.table Answered x.names.call [] (room_answered x.meaning x.laws p c.args.call.ticket x.value (act_of c.args.reply.now.step.act) gone x.left (content c.args.form.now) x.may x.names.call x.names.stands x.names.has_ticket))
 
 pub count_withdrawn-requires : goal.count_withdrawn-requires
 count_withdrawn-requires c =
     let x = c.requires in
     let p = c.args.self.now in
-    let gone = withdrawn_with c.args.ticket (content p.form) c.args.reply.now.pruned in
+    let gone = withdrawn_with c.args.call.ticket (content p.form) c.args.reply.now.pruned in
     record {
       form = x.names.ends;
-      room = room_withdrawn x.meaning x.laws p c.args.ticket x.value (act_of c.args.reply.now.step.act) gone x.left (content c.args.form.now) x.may x.names.call x.names.stands x.names.has_ticket c.count.new.self (c.count.ensures x.names.call x.names.has_site);
+      room = room_withdrawn x.meaning x.laws p c.args.call.ticket x.value (act_of c.args.reply.now.step.act) gone x.left (content c.args.form.now) x.may x.names.call x.names.stands x.names.has_ticket c.count.new.self (c.count.ensures x.names.call x.names.has_site);
     }
 
 pub record-requires : goal.record-requires
@@ -35,22 +35,22 @@ pub invariant_of-self : goal.invariant_of-self
 invariant_of-self c =
     let x = c.requires in
     let p = c.args.self.now in
-    let gone = withdrawn_with c.args.ticket (content p.form) c.args.reply.now.pruned in
+    let gone = withdrawn_with c.args.call.ticket (content p.form) c.args.reply.now.pruned in
     let a = act_of c.args.reply.now.step.act in
     let bs' = content c.args.form.now in
     let it =
     given p.file p.clock c.args.form.now p.issued c.«record».new.events c.count_withdrawn.new.self
-    (answered_state x.meaning x.laws p c.args.ticket x.value a gone x.left bs' x.may x.names.call x.names.stands x.names.has_ticket c.count.new.self (c.count.ensures x.names.call x.names.has_site)
+    (answered_state x.meaning x.laws p c.args.call.ticket x.value a gone x.left bs' x.may x.names.call x.names.stands x.names.has_ticket c.count.new.self (c.count.ensures x.names.call x.names.has_site)
     c.args.form.now c.«record».new.events c.count_withdrawn.new.self c.count_withdrawn.ensures c.«record».ensures refl)
-    (kept_after x.meaning x.laws p (Answer c.args.ticket x.value) a gone x.left bs' x.may)
-    p.whole_file (moved_form x.meaning x.laws p (Answer c.args.ticket x.value) a gone x.left bs' x.may c.args.form.now refl) in
+    (kept_after x.meaning x.laws p (Answer c.args.call.ticket x.value) a gone x.left bs' x.may)
+    p.whole_file (moved_form x.meaning x.laws p (Answer c.args.call.ticket x.value) a gone x.left bs' x.may c.args.form.now refl) in
     record { whole_file = it.0; whole_form = it.1; formals = it.2; bodies = it.3; fits = it.4 }
 
 pub returns : goal.returns
 returns c =
     let x = c.requires in
     let p = c.args.self.now in
-    let gone = withdrawn_with c.args.ticket (content p.form) c.args.reply.now.pruned in
+    let gone = withdrawn_with c.args.call.ticket (content p.form) c.args.reply.now.pruned in
     λ m laws v bs may.
-    answered_state m laws p c.args.ticket v (act_of c.args.reply.now.step.act) gone bs (content c.args.form.now) may x.names.call x.names.stands x.names.has_ticket c.count.new.self (c.count.ensures x.names.call x.names.has_site)
+    answered_state m laws p c.args.call.ticket v (act_of c.args.reply.now.step.act) gone bs (content c.args.form.now) may x.names.call x.names.stands x.names.has_ticket c.count.new.self (c.count.ensures x.names.call x.names.has_site)
     c.args.form.now c.«record».new.events c.count_withdrawn.new.self c.count_withdrawn.ensures c.«record».ensures refl

@@ -1,5 +1,4 @@
-use Rattle.std.proofs.Common.{sym, ◌∙◌, subst, rules}
-use Rattle.forms.specs.Heads.{IsForm}
+use Rattle.std.proofs.Common.{rules}
 use Rattle.engine.specs.Stands.{state_of}
 use Rattle.engine.proofs.Transits.{stands_there}
 use Rattle.engine.proofs.plain.Plain.standing_call.Goals as goal
@@ -7,8 +6,8 @@ use Rattle.engine.proofs.plain.Plain.standing_call.Goals as goal
 pub returns : goal.returns
 returns c =
     let p = c.args.self.now in
-    let same = c.new.ensures ∙ c.as_slice.ensures in
-    let form = subst IsForm (sym same) p.whole_form in
+    let same = c.standing.ensures in
+    let form = c.standing.result.is_form in
     let it = c.first_with_ticket.ensures in
     let found = it.found form in
     let place = it.place form in

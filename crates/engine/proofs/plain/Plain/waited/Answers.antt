@@ -7,10 +7,7 @@ use Rattle.engine.proofs.plain.Plain.waited.Goals as goal
 pub count_lapsed-requires : goal.count_lapsed-requires
 count_lapsed-requires g c =
     let host = c.args.host.now in
-    record {
-      form = c.args.self.now.whole_form;
-      room = room_waited (g.H.Host.meaning host) (g.H.Host.laws host) c.args.self.now c.args.ticks (content c.args.form.now) c.requires;
-    }
+    rw c.new-left.ensures (room_waited (g.H.Host.meaning host) (g.H.Host.laws host) c.args.self.now c.args.ticks (content c.args.form.now) c.requires)
 
 pub invariant_of-self : goal.invariant_of-self
 invariant_of-self g c =
@@ -21,7 +18,7 @@ invariant_of-self g c =
     let bs' = content c.args.form.now in
     let it =
     given p.file (p.clock + c.args.ticks) c.args.form.now p.issued p.events c.count_lapsed.new.self
-    (waited_state m laws p c.args.ticks bs' c.requires c.args.form.now c.count_lapsed.new.self c.count_lapsed.ensures refl)
+    (waited_state m laws p c.args.ticks bs' c.requires c.args.form.now c.count_lapsed.new.self (rw c.new-left.ensures at c.count_lapsed.ensures) refl)
     (kept_waited m laws p c.args.ticks bs' c.requires)
     p.whole_file (waited_form m laws p c.args.ticks bs' c.requires c.args.form.now refl) in
     record { whole_file = it.0; whole_form = it.1; formals = it.2; bodies = it.3; fits = it.4 }
@@ -29,4 +26,4 @@ invariant_of-self g c =
 pub returns : goal.returns
 returns g c =
     let host = c.args.host.now in
-    waited_state (g.H.Host.meaning host) (g.H.Host.laws host) c.args.self.now c.args.ticks (content c.args.form.now) c.requires c.args.form.now c.count_lapsed.new.self c.count_lapsed.ensures refl
+    waited_state (g.H.Host.meaning host) (g.H.Host.laws host) c.args.self.now c.args.ticks (content c.args.form.now) c.requires c.args.form.now c.count_lapsed.new.self (rw c.new-left.ensures at c.count_lapsed.ensures) refl

@@ -9,7 +9,7 @@ use Rattle.engine.specs.Stands.{state_of}
 use Rattle.engine.specs.Moves.{StandsThere}
 use Rattle.engine.proofs.Moved.{outcome}
 use Rattle.engine.proofs.Answering.{refused_outcome, refused_keeps, every_transition, outgrown, may_be_made}
-use Rattle.engine.proofs.Transits.{of_ticket, refused_of_ticket}
+use Rattle.engine.proofs.Transits.{refused_of_ticket}
 use Rattle.engine.proofs.run.Run.answer.Goals as goal
 
 pub returns-in_err-loaded_file : goal.returns-in_err-loaded_file
@@ -46,22 +46,22 @@ reply_step-requires g c =
     let standing = c.in-Some.standing in
     (ap is_some c.in_ok-loaded_file.ensures, subst (λ k. StandsThere (state_of p) k standing) (sym c.in-Some.ensures.0) c.in-Some.ensures.1)
 
-pub simplify-form-requires : goal.simplify-form-requires
-simplify-form-requires g c = c.in_ok-reply.ensures.move.form
+pub new-requires : goal.new-requires
+new-requires g c = c.in_ok-reply.ensures.move.form
 
 pub returns-in_err-check_size : goal.returns-in_err-check_size
 returns-in_err-check_size g c =
     let m = g.H.Host.meaning c.args.self.now.host in
     let p = c.args.self.now.plain in
     let call = Answer c.args.ticket c.args.value in
+    let k = c.in-Some.standing.call.ticket in
     let reply = c.in_ok-reply.reply in
-    let step = of_ticket c.in-Some.ensures.0 c.in_ok-reply.ensures in
     let r = c.from_residual-in_err-check_size.result in
     let e = err_from_is_err_and r c.from_residual-in_err-check_size.ensures.1 in
     let large = c.in_err-check_size.ensures in
-    let gone = withdrawn_with c.args.ticket (content p.form) reply.pruned in
-    let refuses = outgrown m p call (act_of reply.step.act) gone (content reply.step.form) (content c.simplify-form.result) step.move c.simplify-form.ensures _ large.0 large.1 in
-    let o = refused_outcome m p call r e.0 _ e.1 e.2 refuses in
+    let gone = withdrawn_with k (content p.form) reply.pruned in
+    let refuses = outgrown m p (Answer k c.args.value) (act_of reply.step.act) gone (content reply.step.form) (content c.simplify-form.result) c.in_ok-reply.ensures.move (rw c.new.ensures at c.simplify-form.ensures) _ large.0 large.1 in
+    let o = refused_outcome m p call r e.0 _ e.1 e.2 (refused_of_ticket c.in-Some.ensures.0 refuses) in
     record { outcome = o; made = every_transition m p call r _ o; refused = refused_keeps m p call r e.0 _ e.1 e.2; host = refl }
 
 pub answered-requires : goal.answered-requires
@@ -69,15 +69,16 @@ answered-requires g c =
     let host = c.args.self.now.host in
     let m = g.H.Host.meaning host in
     let p = c.args.self.now.plain in
+    let k = c.in-Some.standing.call.ticket in
     let reply = c.in_ok-reply.reply in
-    let step = of_ticket c.in-Some.ensures.0 c.in_ok-reply.ensures in
-    let gone = withdrawn_with c.args.ticket (content p.form) reply.pruned in
+    let step = c.in_ok-reply.ensures in
+    let gone = withdrawn_with k (content p.form) reply.pruned in
     record {
       meaning = m;
       laws = g.H.Host.laws host;
       value = c.args.value;
       left = content reply.step.form;
-      may = may_be_made m p (Answer c.args.ticket c.args.value) (act_of reply.step.act) gone (content reply.step.form) (content c.simplify-form.result) step.move c.simplify-form.ensures c.in_ok-check_size.ensures;
+      may = may_be_made m p (Answer k c.args.value) (act_of reply.step.act) gone (content reply.step.form) (content c.simplify-form.result) step.move (rw c.new.ensures at c.simplify-form.ensures) c.in_ok-check_size.ensures;
       names = step.names;
     }
 
@@ -87,12 +88,11 @@ returns g c =
     let m = g.H.Host.meaning host in
     let laws = g.H.Host.laws host in
     let p = c.args.self.now.plain in
-    let call = Answer c.args.ticket c.args.value in
+    let call = Answer c.in-Some.standing.call.ticket c.args.value in
     let reply = c.in_ok-reply.reply in
-    let step = of_ticket c.in-Some.ensures.0 c.in_ok-reply.ensures in
     let bs = content reply.step.form in
     let bs' = content c.simplify-form.result in
-    let gone = withdrawn_with c.args.ticket (content p.form) reply.pruned in
-    let may = may_be_made m p call (act_of reply.step.act) gone bs bs' step.move c.simplify-form.ensures c.in_ok-check_size.ensures in
-    let o = subst (Outcome m (state_of p) call (Ok tt)) (sym (c.answered.ensures m laws c.args.value bs may)) (outcome m laws p call (act_of reply.step.act) gone bs bs' may) in
-    record { outcome = o; made = every_transition m p call (Ok tt) _ o; refused = tt; host = refl }
+    let gone = withdrawn_with c.in-Some.standing.call.ticket (content p.form) reply.pruned in
+    let may = may_be_made m p call (act_of reply.step.act) gone bs bs' c.in_ok-reply.ensures.move (rw c.new.ensures at c.simplify-form.ensures) c.in_ok-check_size.ensures in
+    let o = rw c.in-Some.ensures.0 at (subst (Outcome m (state_of p) call (Ok tt)) (sym (c.answered.ensures m laws c.args.value bs may)) (outcome m laws p call (act_of reply.step.act) gone bs bs' may)) in
+    record { outcome = o; made = every_transition m p (Answer c.args.ticket c.args.value) (Ok tt) _ o; refused = tt; host = refl }

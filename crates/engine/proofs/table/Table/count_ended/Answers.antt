@@ -8,11 +8,11 @@ use Rattle.engine.proofs.table.Table.count_ended.Goals as goal
 
 pub loop-placed-init : goal.loop-placed-init
 loop-placed-init g c =
-    let all = c.pending_calls-placed-items.ensures.all c.requires.form in (
+    let all = c.pending_calls-placed-items.ensures.all c.args.whole.is_form in (
       tt,
       tt,
       λ test decides room.
-          subst (λ ps. LeftToCount test c.args.cause (pending_calls (expression c.args.form)) ps c.args.self.now c.args.self.now) (sym (ap pendings_left c.into_iter-placed-iterator.ensures.into_iter_gives ∙ all)) (record { room = room; rest = λ site. refl }),
+          subst (λ ps. LeftToCount test c.args.cause (pending_calls (expression c.args.whole.form)) ps c.args.self.now c.args.self.now) (sym (ap pendings_left c.into_iter-placed-iterator.ensures.into_iter_gives ∙ all)) (record { room = room; rest = λ site. refl }),
     )
 
 pub count-requires : goal.count-requires

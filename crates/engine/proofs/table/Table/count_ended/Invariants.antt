@@ -11,4 +11,4 @@ abbrev pub invariant-loop-placed : goal.invariant-loop-placed
 invariant-loop-placed g l =
     (goal.iterator-loop-placed g).can_next l.placed-iterator
     × (goal.iterator-loop-placed g).is_finite l.placed-iterator
-    × ((test : Pending → Bool) → Decides (goal.E-post g l.ends) test → Room l.initial.self l.cause (filter test (pending_calls (expression l.form))) → LeftToCount test l.cause (pending_calls (expression l.form)) (pendings_left l.placed-iterator) l.initial.self l.self)
+    × ((test : Pending → Bool) → Decides (goal.E-post g l.ends) test → Room l.initial.self l.cause (filter test (pending_calls (expression l.whole.form))) → LeftToCount test l.cause (pending_calls (expression l.whole.form)) (pendings_left l.placed-iterator) l.initial.self l.self)

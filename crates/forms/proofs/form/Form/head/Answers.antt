@@ -1,4 +1,5 @@
 use Rattle.std.proofs.Common.{◌≡◌, [], ◌∷◌, sym, refl, ap, ◌∙◌}
+use Rattle.std.proofs.lemmas.Option.{MatchOption-at_some}
 use Rattle.orc.specs.Expressions.{stop, site_call, definition_call, parallel, sequential, pruning, bytes}
 use Rattle.formats.specs.Operands.{byte_at}
 use Rattle.forms.specs.Commands.{byte_of}
@@ -70,8 +71,8 @@ returns-in-Pruning-clause-forms c =
     let there = two_in_front bs 5 is (reaches bs command.1 5 is) in
     parts_are_forms bs command.1 5 is (5 ∷ byte_at bs 1 ∷ []) (pruning (byte_at bs 1)) refl (λ f g. refl) there c.parts-in-Pruning.ensures
 
-pub returns-in-Some-read-clause-expression : goal.returns-in-Some-read-clause-expression
-returns-in-Some-read-clause-expression c =
+pub returns-in-Pending-clause-expression : goal.returns-in-Pending-clause-expression
+returns-in-Pending-clause-expression c =
     let bs = c.args.self.bytes.now in
     let command = c.in-Some.ensures in
-    headed_pending bs command.1 6 (sym command.0 ∙ ap byte_of c.in-Pending.is) refl c.in-Some-read.pending c.in-Some-read.ensures.1
+    headed_pending bs command.1 6 (sym command.0 ∙ ap byte_of c.in-Pending.is) refl c.unwrap.result (MatchOption-at_some _ _ c.unwrap.result c.unwrap.ensures c.read.ensures).1
