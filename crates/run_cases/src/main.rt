@@ -7,6 +7,7 @@ use hosts::host::Host;
 use hosts::local::Local;
 use hosts::sheet::Sheet;
 use runs::call::Call;
+use runs::call::Call::{Answer, Go, Wait};
 use std::io;
 
 // The call of let with 5.
@@ -112,7 +113,7 @@ fn repeat(rt: &HostRuntime, name: &str, file: &[u8], times: usize) -> io::Result
     let accepted = (0..times).filter(|_| run.go(0).is_ok()).count();
     println!(rt; "{name}: {accepted} of {times} go 0 accepted")?;
     show(rt, &run)?;
-    make(rt, &mut run, Call::Go(0))?;
+    make(rt, &mut run, Go(0))?;
     show(rt, &run)
 }
 
@@ -123,31 +124,25 @@ fn replies(rt: &HostRuntime) -> io::Result<()> {
         Local,
         &LET_5,
         &[
-            Call::Answer(1, 5),
-            Call::Wait(1),
-            Call::Wait(0),
-            Call::Go(1),
-            Call::Go(0),
-            Call::Go(0),
-            Call::Answer(1, 6),
-            Call::Answer(2, 5),
-            Call::Answer(1, 5),
-            Call::Answer(1, 5),
+            Answer(1, 5),
+            Wait(1),
+            Wait(0),
+            Go(1),
+            Go(0),
+            Go(0),
+            Answer(1, 6),
+            Answer(2, 5),
+            Answer(1, 5),
+            Answer(1, 5),
         ],
     )?;
-    play(
-        rt,
-        "if(0)",
-        Local,
-        &IF_0,
-        &[Call::Go(0), Call::Answer(1, 0), Call::Wait(1)],
-    )?;
+    play(rt, "if(0)", Local, &IF_0, &[Go(0), Answer(1, 0), Wait(1)])?;
     play(
         rt,
         "either, going on",
         Local,
         &BOTH,
-        &[Call::Go(0), Call::Go(0), Call::Answer(1, 1)],
+        &[Go(0), Go(0), Answer(1, 1)],
     )?;
     play(
         rt,
@@ -155,21 +150,15 @@ fn replies(rt: &HostRuntime) -> io::Result<()> {
         Local,
         &FIRST,
         &[
-            Call::Go(0),
-            Call::Go(0),
-            Call::Answer(2, 2),
-            Call::Answer(1, 1),
-            Call::Go(0),
-            Call::Answer(3, 2),
+            Go(0),
+            Go(0),
+            Answer(2, 2),
+            Answer(1, 1),
+            Go(0),
+            Answer(3, 2),
         ],
     )?;
-    play(
-        rt,
-        "shadowed",
-        Local,
-        &SHADOWED,
-        &[Call::Go(1), Call::Answer(1, 4)],
-    )
+    play(rt, "shadowed", Local, &SHADOWED, &[Go(1), Answer(1, 4)])
 }
 
 fn times(rt: &HostRuntime) -> io::Result<()> {
@@ -179,14 +168,14 @@ fn times(rt: &HostRuntime) -> io::Result<()> {
         Local,
         &TIMER,
         &[
-            Call::Go(0),
-            Call::Wait(4),
-            Call::Wait(2),
-            Call::Answer(1, 0),
-            Call::Wait(1),
-            Call::Wait(1),
-            Call::Answer(1, 0),
-            Call::Wait(1),
+            Go(0),
+            Wait(4),
+            Wait(2),
+            Answer(1, 0),
+            Wait(1),
+            Wait(1),
+            Answer(1, 0),
+            Wait(1),
         ],
     )?;
     play(
@@ -195,11 +184,11 @@ fn times(rt: &HostRuntime) -> io::Result<()> {
         Local,
         &[0, 0],
         &[
-            Call::Go(0),
-            Call::Wait(7),
-            Call::Wait(4_294_967_288),
-            Call::Wait(4_294_967_287),
-            Call::Wait(1),
+            Go(0),
+            Wait(7),
+            Wait(4_294_967_288),
+            Wait(4_294_967_287),
+            Wait(1),
         ],
     )
 }
@@ -212,14 +201,14 @@ fn windows(rt: &HostRuntime) -> io::Result<()> {
         host,
         &SITES,
         &[
-            Call::Go(0),
-            Call::Go(0),
-            Call::Wait(1),
-            Call::Answer(1, 1),
-            Call::Wait(1),
-            Call::Answer(1, 3),
-            Call::Answer(1, 0),
-            Call::Answer(1, 2),
+            Go(0),
+            Go(0),
+            Wait(1),
+            Answer(1, 1),
+            Wait(1),
+            Answer(1, 3),
+            Answer(1, 0),
+            Answer(1, 2),
         ],
     )?;
     play(
@@ -228,15 +217,15 @@ fn windows(rt: &HostRuntime) -> io::Result<()> {
         host,
         &SITES,
         &[
-            Call::Go(1),
-            Call::Wait(1),
-            Call::Go(0),
-            Call::Wait(3),
-            Call::Answer(1, 7),
-            Call::Wait(1),
-            Call::Wait(1),
-            Call::Answer(2, 1),
-            Call::Wait(1),
+            Go(1),
+            Wait(1),
+            Go(0),
+            Wait(3),
+            Answer(1, 7),
+            Wait(1),
+            Wait(1),
+            Answer(2, 1),
+            Wait(1),
         ],
     )?;
     play(
@@ -244,13 +233,7 @@ fn windows(rt: &HostRuntime) -> io::Result<()> {
         "never",
         host,
         &SECOND,
-        &[
-            Call::Go(0),
-            Call::Wait(3),
-            Call::Wait(0),
-            Call::Wait(1),
-            Call::Answer(1, 0),
-        ],
+        &[Go(0), Wait(3), Wait(0), Wait(1), Answer(1, 0)],
     )
 }
 
@@ -269,7 +252,7 @@ fn limits(rt: &HostRuntime) -> io::Result<()> {
         "unknown site",
         Local,
         &UNKNOWN,
-        &[Call::Go(0), Call::Answer(1, 0), Call::Wait(1)],
+        &[Go(0), Answer(1, 0), Wait(1)],
     )?;
     repeat(rt, "four calls of itself", &FOURFOLD, 227)?;
     repeat(rt, "calls of itself", &ENDLESS, 512)
