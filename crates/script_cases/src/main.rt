@@ -6,6 +6,7 @@ use pictures::picture::picture;
 use pictures::scale::scale;
 use runs::call::Call;
 use scripts::line::{read_call, write_call};
+use scripts::script::{BadLine, read_script};
 
 // Good lines, blank ones and comments, and each fault at its edges.
 const LINES: [&str; 53] = [
@@ -65,11 +66,27 @@ const LINES: [&str; 53] = [
 ];
 
 // Shows the lines, the calls written as lines, the scales and the pictures.
+// Scripts: none of a line, with and without an end of the last line, with blank lines and comments, and with bad lines.
+const SCRIPTS: [&str; 9] = [
+    "",
+    "\n",
+    "go 0",
+    "go 0\n",
+    "# a door\n\ngo 0\n  answer 1 5 \nwait 7\n",
+    "go 0\r\nwait 1\r\n",
+    "go 0\nanswer 1\nwait 7",
+    "oops",
+    "go 0\nwait 1\n\nwait 4294967296",
+];
+
 fn main(rt: HostRuntime) -> anyhow::Result<()> {
     for line in LINES {
         show_line(&rt, line)?;
     }
     show_written(&rt)?;
+    for text in SCRIPTS {
+        show_script(&rt, text)?;
+    }
     show_scales(&rt)?;
     show_pictures(&rt)
 }
@@ -97,6 +114,20 @@ fn show_written(rt: &HostRuntime) -> anyhow::Result<()> {
         let line = write_call(rt.alloc(), call)?;
         println!(rt; "{call:?} is written {line}")?;
         show_line(rt, line.as_str())?;
+    }
+    Ok(())
+}
+
+// A script, and its calls up to its first bad line.
+fn show_script(rt: &HostRuntime, text: &str) -> anyhow::Result<()> {
+    let script = read_script(rt.alloc(), text)?;
+    print!(rt; "{text:?}:")?;
+    for call in script.calls.iter() {
+        print!(rt; " {call}.")?;
+    }
+    match script.bad {
+        Some(BadLine { line, fault }) => println!(rt; " line {line}: {fault}")?,
+        None => println!(rt; " no bad line")?,
     }
     Ok(())
 }

@@ -2,3 +2,4 @@ pub mod Splitting
 pub mod Counting
 pub mod Sayings
 pub mod Readings
+pub mod Scripted

@@ -3,3 +3,4 @@ pub mod Words
 pub mod Operands
 pub mod Parsing
 pub mod Lines
+pub mod Scripts

@@ -4,3 +4,4 @@
 pub mod fault;
 pub mod line;
 mod number;
+pub mod script;
