@@ -2,7 +2,7 @@
 # make test  proves everything, tries the must-fail edits, runs every program and test
 
 run:
-	cd crates/door && rt run -- check data/close.par data/door.sheet
+	cd crates/door && rt run -- run data/close.par data/door.sheet data/closes.script
 
 test:
 	.ci/run

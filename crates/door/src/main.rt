@@ -2,6 +2,7 @@
 #![tactic(auto)]
 
 use hosts::local::Local;
+use journals::journal::run_report;
 use reports::file::{file_report, file_report_with_sheet};
 use reports::replies::replies_report;
 use reports::sheet::sheet_report;
@@ -9,15 +10,16 @@ use std::alloc::AllocError;
 use std::fs::File;
 use std::io::Read;
 use std::process::ExitCode;
-use std::{env, fmt, io};
+use std::{env, fmt, fs, io};
 
 const USAGE: &str = "usage: door check FILE [SHEET]         judge a parameter file, with a sheet
        door sheet SHEET                judge a site sheet
        door replies SHEET SITE VALUE   what a site can reply to a value
+       door run FILE SHEET SCRIPT      play a script over a file, and show the record
        door help                       what door does
 ";
 
-const HELP: &str = "door judges the files of a lift's door controller.
+const HELP: &str = "door judges the files of a lift's door controller, and plays scripts over them.
 
   door check FILE [SHEET]
       Reads a parameter file and prints accepted, with its definitions and goal as
@@ -32,10 +34,19 @@ const HELP: &str = "door judges the files of a lift's door controller.
       Prints what a site of the controller can reply when it is called with a
       value. Sites 0 to 3 are let, if, signal and rtimer; from 4 on they are the
       sheet's, less 4.
+  door run FILE SHEET SCRIPT
+      Begins a run of a parameter file and makes the calls of a script, a line for
+      each: go N makes the due call of a number, counted from 0, answer TICKET VALUE
+      hands in a reply, and wait TICKS lets time pass. Lines that are empty or begin
+      with # are passed over. SCRIPT - is standard input.
+      Prints what each call met, then the clock, the form's size, how many calls are
+      due, the form, the record, the totals by site, and a picture of the run. From
+      a line on that says no call nothing is played.
   door help
       Prints this text.
 
-The exit status is 0 if the file is accepted, else 1.
+The exit status is 0 if the file and the sheet are accepted and each line of a
+script can be read, else 1. A call that is refused is no failure.
 ";
 
 // How many bytes of an input are read. The longest that can be accepted has 4096, and the report on a longer one shows the
@@ -55,6 +66,11 @@ enum Command<'a> {
         sheet: &'a str,
         site: u8,
         value: u16,
+    },
+    Run {
+        file: &'a str,
+        sheet: &'a str,
+        script: &'a str,
     },
 }
 
@@ -76,6 +92,11 @@ impl<'a> Command<'a> {
                 sheet: sheet.as_str(),
                 site: site.parse().map_err(|_| Stop::NoNumber)?,
                 value: value.parse().map_err(|_| Stop::NoNumber)?,
+            }),
+            ("run", [file, sheet, script]) => Ok(Command::Run {
+                file: file.as_str(),
+                sheet: sheet.as_str(),
+                script: script.as_str(),
             }),
             _ => Err(Stop::Usage),
         }
@@ -122,7 +143,7 @@ impl<'a> From<io::Error> for Stop<'a> {
     }
 }
 
-// The exit status says whether what was judged is accepted.
+// The exit status says whether what was judged is accepted, and whether each line of a script could be read.
 fn main(rt: HostRuntime) -> anyhow::Result<ExitCode> {
     let words = env::args(&rt)?.skip(1).collect::<Vec<String>>(rt.alloc())?;
     match run(&rt, words.as_slice()) {
@@ -157,6 +178,16 @@ fn run<'a>(rt: &HostRuntime, words: &'a [String]) -> Result<ExitCode, Stop<'a>> 
         Command::Replies { sheet, site, value } => {
             replies_report(heap, read(rt, sheet)?.as_slice(), site, value)?
         }
+        Command::Run {
+            file,
+            sheet,
+            script,
+        } => {
+            let bytes = read(rt, file)?;
+            let rows = read(rt, sheet)?;
+            let lines = read_lines(rt, script)?;
+            run_report(heap, bytes.as_slice(), rows.as_slice(), lines.as_str())?
+        }
     };
     print!(rt; "{report}")?;
     if report.accepted {
@@ -177,4 +208,13 @@ fn read_bytes(rt: &HostRuntime, path: &str) -> io::Result<Vec<u8>> {
         .take(MOST_READ)
         .read_to_end(&mut bytes)?;
     Ok(bytes)
+}
+
+// The text of a script: of a file, or of standard input where its path is a dash.
+fn read_lines<'a>(rt: &HostRuntime, path: &'a str) -> Result<String, Stop<'a>> {
+    let text = match path {
+        "-" => io::read_to_string(rt.alloc(), rt.reader()),
+        _ => fs::read_to_string(rt, path),
+    };
+    text.map_err(|error| Stop::Unread(path, error))
 }

@@ -11,7 +11,7 @@ use hosts::sheet::Sheet;
 use sheets::rows::read_sheet;
 
 // The local sites, and from 4 on those of a sheet; or the fault of a sheet that is refused.
-pub(crate) fn controller(sheet: &[u8]) -> Result<Pair<Local, Sheet>, Fault>
+pub fn controller(sheet: &[u8]) -> Result<Pair<Local, Sheet>, Fault>
     ensures { MatchResult result
         (λ host. (rows : List SheetRow) × SheetOutcome sheet.now (Ok rows) × (⟦<Pair<Local, Sheet> as Host>⟧.meaning host ≡ controller (Ok rows)))
         (λ f. SheetOutcome sheet.now (Err f)) }

@@ -1,5 +1,5 @@
 // The report of a parameter file: a verdict, and then its definitions and goal as a tree, or what was expected and where.
-ghost use Rattle.std.specs.Prelude.{◌≡◌, false, IfOk, string_bytes, MatchResult};
+ghost use Rattle.std.specs.Prelude.{◌≡◌, false, IfOk, Err, string_bytes, MatchResult};
 ghost use Rattle.sheets.specs.Format.{Outcome as SheetResult, SheetOutcome};
 ghost use Rattle.reports.specs.Files.{JudgedFile};
 ghost use Rattle.reports.specs.Replies.{controller};
@@ -29,8 +29,15 @@ pub fn file_report<H: Host>(heap: Global, host: &H, bytes: &[u8]) -> Result<Repo
             let trees = trees(heap, contents)?;
             Report::acceptance(heap, trees.as_str())
         }
-        Err(fault) => Report::refusal(heap, bytes, fault, expected(fault)),
+        Err(fault) => file_refusal_report(heap, bytes, fault),
     }
+}
+
+// The report of a file that is refused with a fault.
+pub fn file_refusal_report(heap: Global, bytes: &[u8], fault: Fault) -> Result<Report, AllocError>
+    ensures { IfOk result (λ t. Begins (first_line {X = Unit {0}} (Err fault)) (string_bytes t.text) × (t.accepted ≡ false)) }
+{
+    Report::refusal(heap, bytes, fault, expected(fault))
 }
 
 // The report of a file, judged with the local sites and a sheet. A sheet that is refused is reported as such.
@@ -43,15 +50,20 @@ pub fn file_report_with_sheet(
 {
     match controller(sheet) {
         Ok(host) => file_report(heap, &host, bytes),
-        Err(fault) => {
-            let mut report = refusal_report(heap, sheet, fault)?;
-            writeln!(
-                report.text,
-                "the fault is in the sheet, and not in the parameter file"
-            )?;
-            Ok(report)
-        }
+        Err(fault) => sheet_refusal_report(heap, sheet, fault),
     }
+}
+
+// The report of a sheet that is refused with a fault, where a file was to be judged with it.
+pub fn sheet_refusal_report(heap: Global, sheet: &[u8], fault: Fault) -> Result<Report, AllocError>
+    ensures { IfOk result (λ t. Begins (first_line {X = Unit {0}} (Err fault)) (string_bytes t.text) × (t.accepted ≡ false)) }
+{
+    let mut report = refusal_report(heap, sheet, fault)?;
+    writeln!(
+        report.text,
+        "the fault is in the sheet, and not in the parameter file"
+    )?;
+    Ok(report)
 }
 
 // The definitions and the goal.

@@ -1,7 +1,7 @@
 // What the program prints, as texts, so that it can be tried without a terminal.
 #![tactic(auto)]
 
-mod controller;
+pub mod controller;
 mod dump;
 pub mod file;
 mod ranges;
