@@ -1,0 +1,6 @@
+pub mod Told
+pub mod Orders
+pub mod Shown
+pub mod Judged
+pub mod Written
+pub mod Played
