@@ -1,5 +1,6 @@
 pub mod Told
 pub mod Orders
+pub mod Counts
 pub mod Shown
 pub mod Judged
 pub mod Written

@@ -1,9 +1,11 @@
 -- Calls that are ordered in numbers. Assumes nothing.
-use Rattle.std.specs.Prelude.{◌≡◌, ℕ, List, [], ◌∷◌, cond, ◌==◌, nat_le, Some, None, Option}
+use Rattle.std.specs.Prelude.{◌≡◌, ℕ, List, [], ◌∷◌, cond, ◌==◌, nat_le, Some, None, Option, MatchOption}
 use Rattle.runs.specs.declared.call.Call.{Call}
 use Rattle.runs.specs.declared.call.Call.TheVariants.{Go, Answer, Wait}
 use Rattle.runs.specs.Refusals.{told}
-use Rattle.runs.specs.Outcomes.{Response}
+use Rattle.orc.specs.Meaning.{Meaning}
+use Rattle.runs.specs.States.{State}
+use Rattle.runs.specs.Outcomes.{Response, Outcome}
 use Rattle.controllers.specs.declared.verdict.Verdict.{Verdict}
 use Rattle.controllers.specs.declared.order.Order.{Order}
 use Rattle.controllers.specs.Told.{no_call, verdict_on}
@@ -20,6 +22,13 @@ call_of o = cond (nat_le o.value 65535) (call_of_kind o.kind o.number o.value) N
 -- an order with what it met noted
 abbrev pub noted : Order → Verdict → Order
 noted o v = record { kind = o.kind; number = o.number; value = o.value; outcome = v }
+
+-- In state s the call of an order is made, and v tells its response; what is no call makes nothing, and v says so.
+abbrev pub Makes : Meaning → State → Order → Verdict → State → Type 0
+Makes m s o v s' =
+    MatchOption (call_of o)
+    ((v ≡ no_call) × (s' ≡ s))
+    (λ c. (r : Response) × Outcome m s c r s' × (v ≡ verdict_on told r))
 
 -- Met os cs rs os': of the orders os those that are calls are cs, in their order. With the responses rs to these, os' are the orders with
 -- what each met noted: the response to its call, or that no call was made.

@@ -37,7 +37,7 @@ totals_of s site =
     }
 
 -- those of the 32 sites, site 0 first
-abbrev pub all_totals : State → List Totals
+unfoldable pub all_totals : State → List Totals
 all_totals s = map (totals_of s) (range_with_len 0 32)
 
 -- the clock, the size of the form, how many calls are due, and how many events are recorded

@@ -1,4 +1,7 @@
 // A run begun and played in the caller's memory.
+ghost use Rattle.controllers.specs.Judged.{Judged};
+ghost use Rattle.controllers.specs.Played.{Played};
+
 use crate::event::{Event, write_events};
 use crate::host::controller;
 use crate::judgement::Judgement;
@@ -16,7 +19,13 @@ pub fn play(
     form: &mut [u8],
     events: &mut [Event],
     totals: &mut [Totals],
-) -> (Judgement, State) {
+) -> (Judgement, State)
+    ensures judged { Judged file.now sheet.now result.0 }
+    ensures played { Played file.now sheet.now
+        (record { orders = orders.old; form = form.old; events = events.old; totals = totals.old })
+        (record { orders = orders.new; form = form.new; events = events.new; totals = totals.new })
+        result.0 result.1 }
+{
     let (host, sheet_judged) = controller(sheet);
     let (mut run, file_judged) = Run::begin(host, file);
     make_all(&mut run, orders);

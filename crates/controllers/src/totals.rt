@@ -1,10 +1,17 @@
 // The totals of sites in numbers.
+ghost use Rattle.std.specs.Prelude.{◌≡◌};
+ghost use Rattle.orc.specs.Expressions.{entry};
+ghost use Rattle.engine.specs.Stands.{state_of};
+ghost use Rattle.controllers.specs.Shown.{all_totals};
+ghost use Rattle.controllers.specs.Counts.{counts_of};
+ghost use Rattle.controllers.specs.Written.{laid};
+
 use engine::run::Run;
 use engine::shown::SiteTotals;
 
 // How many tickets of a site were called, and what became of them.
 #[repr(C)]
-#[derive(Clone, Copy, PartialEq, Eq, Debug, Default)]
+#[derive(Clone, Copy, Debug, Default)]
 pub struct Totals {
     pub called: u32,
     pub answered: u32,
@@ -14,6 +21,8 @@ pub struct Totals {
 }
 
 impl From<SiteTotals> for Totals {
+    ghost from_gives = { λ totals t. t ≡ counts_of totals };
+
     fn from(totals: SiteTotals) -> Totals {
         Totals {
             called: u32::from(totals.called),
@@ -25,11 +34,21 @@ impl From<SiteTotals> for Totals {
     }
 }
 
+// The totals of the site of a number, if there is such a site.
+fn counted<H>(run: &Run<H>, site: usize) -> Option<Totals>
+    ensures { result ≡ entry (all_totals (state_of run.now.plain)) site }
+{
+    let totals = run.totals(u8::try_from(site).ok()?)?;
+    Some(Totals::from(totals))
+}
+
 // Writes the totals of the sites, site 0 first, as far as there is room.
-pub fn write_totals<H>(run: &Run<H>, totals: &mut [Totals]) {
+pub fn write_totals<H>(run: &Run<H>, totals: &mut [Totals])
+    ensures { totals.new ≡ laid (all_totals (state_of run.now.plain)) totals.old }
+{
     for (site, place) in totals.iter_mut().enumerate() {
-        if let Some(totals) = u8::try_from(site).ok().and_then(|site| run.totals(site)) {
-            *place = Totals::from(totals);
+        if let Some(totals) = counted(run, site) {
+            *place = totals;
         }
     }
 }

@@ -1,9 +1,12 @@
 // What is told of a judgement or of a response, in numbers.
+ghost use Rattle.std.specs.Prelude.{◌≡◌};
+ghost use Rattle.controllers.specs.Told.{verdict_on};
+
 use verdicts::reason::Reason;
 
 // The number of a refusal and its place. Both are 0 where something was accepted.
 #[repr(C)]
-#[derive(Clone, Copy, PartialEq, Eq, Debug, Default)]
+#[derive(Clone, Copy, Debug, Default)]
 pub struct Verdict {
     pub number: u32,
     pub place: u32,
@@ -23,7 +26,9 @@ pub const NO_CALL: Verdict = Verdict {
 
 impl Verdict {
     // On a judgement on an input, or a response to a call. A place beyond 32 bits is told as the greatest number of them.
-    pub fn of<R: Reason>(judged: &Result<(), R>) -> Verdict {
+    pub fn of<R: Reason>(judged: &Result<(), R>) -> Verdict
+        ensures { result ≡ verdict_on R.told judged.now }
+    {
         match judged {
             Ok(()) => ACCEPTED,
             Err(reason) => Verdict {

@@ -1,0 +1,4 @@
+mod Counting
+mod Laying
+mod Ordering
+mod Telling
