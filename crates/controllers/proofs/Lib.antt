@@ -1,4 +1,9 @@
 mod Counting
+mod FilePlaces
+mod Judging
 mod Laying
 mod Ordering
+mod Refusing
+mod Rules
+mod SheetPlaces
 mod Telling

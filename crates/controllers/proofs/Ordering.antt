@@ -8,10 +8,20 @@ use Rattle.runs.specs.Refusals.{told}
 use Rattle.runs.specs.States.{State}
 use Rattle.runs.specs.Outcomes.{Response, Outcome}
 use Rattle.runs.specs.Histories.{History, start, after}
+use Rattle.runs.specs.Facts.{BodiesFit, StateFits}
+use Rattle.runs.specs.Recording.{InRange}
 use Rattle.controllers.specs.declared.verdict.Verdict.{Verdict}
 use Rattle.controllers.specs.declared.order.Order.{Order}
-use Rattle.controllers.specs.Told.{no_call, verdict_on}
+use Rattle.controllers.specs.Told.{no_call, verdict_on, shortened}
 use Rattle.controllers.specs.Orders.{call_of, noted, Makes, Met, none_left, is_call, is_no_call}
+use Rattle.controllers.proofs.Telling.{verdict_whole}
+use Rattle.controllers.proofs.Refusing.{told_near}
+
+-- a call that is made of an order tells what it met
+pub makes_call : (m : Meaning) (s s' : State) (o : Order) (c : Call) (r : Response) (v : Verdict) → BodiesFit s.definitions → StateFits s → InRange c → call_of o ≡ Some c → Outcome m s c r s' → v ≡ shortened (verdict_on told r) → Makes m s o v s'
+makes_call m s s' o c r v bodies fits ranged is outcome said =
+    let P : Option Call → Type 0 = λ x. MatchOption x ((v ≡ no_call) × (s' ≡ s)) (λ c. (r : Response) × Outcome m s c r s' × (v ≡ verdict_on told r)) in
+    subst P (sym is) (r, outcome, verdict_whole told r v said (told_near m s bodies fits c r s' ranged outcome))
 
 -- one order more, at the end
 met_call : {os os' : List Order} {cs : List Call} {rs : List Response} (o : Order) (c : Call) (r : Response) → call_of o ≡ Some c → Met os cs rs os'

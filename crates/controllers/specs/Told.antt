@@ -14,11 +14,15 @@ accepted = record { number = 0; place = 0 }
 abbrev pub no_call : Verdict
 no_call = record { number = greatest; place = 0 }
 
--- a reason for a refusal, by its number and its place; a place that has more than 32 bits is told as the greatest number of 32
+-- a reason for a refusal: its number and its place
 abbrev pub refused : Told → Verdict
-refused t = record { number = t.number; place = min t.place greatest }
+refused t = record { number = t.number; place = t.place }
 
 -- an acceptance or a refusal, by what is told of its reasons
 abbrev pub verdict_on : {X E : Type 0} → (E → Told) → Result X E → Verdict
 verdict_on told (Ok x) = accepted
 verdict_on told (Err e) = refused (told e)
+
+-- the same with a place of 32 bits: the greatest number of them is told for one that has more
+abbrev pub shortened : Verdict → Verdict
+shortened v = record { number = v.number; place = min v.place greatest }

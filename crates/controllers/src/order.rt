@@ -1,8 +1,9 @@
 // Calls as they are ordered in numbers.
-ghost use Rattle.std.specs.Prelude.{◌≡◌, List};
+ghost use Rattle.std.specs.Prelude.{◌≡◌, List, IfSome};
 ghost use Rattle.runs.specs.declared.call.Call as calls;
 ghost use Rattle.runs.specs.Outcomes.{Response};
 ghost use Rattle.runs.specs.Histories.{History};
+ghost use Rattle.runs.specs.Recording.{InRange};
 ghost use Rattle.engine.specs.Stands.{state_of};
 ghost use Rattle.controllers.specs.Orders.{call_of, Makes, Met};
 
@@ -25,7 +26,8 @@ pub struct Order {
 impl Order {
     // The call that is ordered. There is none of another kind, and none with a value beyond 16 bits.
     pub fn call(self) -> Option<Call>
-        ensures { result ≡ call_of self }
+        ensures call { result ≡ call_of self }
+        ensures in_range { IfSome result InRange }
     {
         let value = u16::try_from(self.value).ok()?;
         match self.kind {

@@ -1,6 +1,6 @@
 // What is told of a judgement or of a response, in numbers.
 ghost use Rattle.std.specs.Prelude.{◌≡◌};
-ghost use Rattle.controllers.specs.Told.{verdict_on};
+ghost use Rattle.controllers.specs.Told.{verdict_on, shortened};
 
 use verdicts::reason::Reason;
 
@@ -25,9 +25,10 @@ pub const NO_CALL: Verdict = Verdict {
 };
 
 impl Verdict {
-    // On a judgement on an input, or a response to a call. A place beyond 32 bits is told as the greatest number of them.
+    // On a judgement on an input, or a response to a call. A place beyond 32 bits is told as the greatest number of them; no fault that
+    // is found and no refusal of a call here has one, as the contracts that rest on this one say.
     pub fn of<R: Reason>(judged: &Result<(), R>) -> Verdict
-        ensures { result ≡ verdict_on R.told judged.now }
+        ensures { result ≡ shortened (verdict_on R.told judged.now) }
     {
         match judged {
             Ok(()) => ACCEPTED,
