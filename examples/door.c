@@ -5,7 +5,7 @@
 #include "teyumbi.h"
 
 #include <stdio.h>
-#include <string.h>
+#include <stdlib.h>
 
 /* As many bytes as an input may have, and one more, so that one that is too long is judged so. */
 enum { LONGEST = 4097 };
@@ -19,7 +19,7 @@ static size_t load(const char *path, uint8_t *bytes)
     size_t length = 0;
     if (file == NULL) {
         perror(path);
-        return 0;
+        exit(EXIT_FAILURE);
     }
     length = fread(bytes, 1, LONGEST, file);
     fclose(file);
@@ -30,6 +30,8 @@ static void print_verdict(const char *name, teyumbi_verdict verdict)
 {
     if (verdict.number == 0)
         printf("%s: accepted\n", name);
+    else if (verdict.number == TEYUMBI_NO_CALL)
+        printf("%s: no call\n", name);
     else
         printf("%s: refused %u at %u\n", name, (unsigned)verdict.number, (unsigned)verdict.place);
 }

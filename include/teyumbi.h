@@ -6,8 +6,8 @@
  * nowhere else.
  *
  * What the caller owes:
- * - Each pointer with a length points to so many elements, for the length of the call. Also where a length is 0 the pointer is not null.
- *   A length in bytes is below 2^63.
+ * - Each pointer is aligned for its type and not null, also where its length is 0, and points to as many elements as its length says, which
+ *   have fewer than 2^63 bytes, for the whole of the call.
  * - `file` and `sheet` may overlap each other. What is written (everything without `const`) overlaps nothing else.
  * - All of it is initialised, also what is only written.
  * - No other thread writes `file` or `sheet`, or reads or writes the rest, until the call returns. Calls with memory of their own may run
