@@ -22,10 +22,11 @@ impl<H: Host + Copy> Run<H> {
         ensures refused { KeptIfRefused result self.old.plain self.new.plain }
         ensures host { self.new.host ≡ self.old.host }
     {
-        let step = self.plain.due_step(n)?;
-        let form = settle(&self.host, Whole::new(&step.form), self.plain.clock);
-        check_size(&form)?;
-        self.plain.gone(&self.host, &step, &form);
+        let step = self.plain.due_step(n, &mut self.lengths, &mut self.left)?;
+        let form = Whole::measured(step.form, &mut self.lengths);
+        settle(&self.host, form, self.plain.clock, &mut self.settled);
+        check_size(&self.settled)?;
+        self.plain.gone(&self.host, &step, &self.settled);
         Ok(())
     }
 
@@ -44,10 +45,17 @@ impl<H: Host + Copy> Run<H> {
         let Some(standing) = self.plain.standing_call(ticket) else {
             return Err(Refusal::NotStanding(ticket));
         };
-        let reply = self.plain.reply_step(&self.host, standing, value)?;
-        let form = simplify(Whole::new(&reply.step.form));
-        check_size(&form)?;
-        self.plain.answered(standing.call, &reply, &form);
+        let reply = self.plain.reply_step(
+            &self.host,
+            standing,
+            value,
+            &mut self.lengths,
+            &mut self.left,
+        )?;
+        let form = Whole::measured(reply.step.form, &mut self.lengths);
+        simplify(form, &mut self.settled);
+        check_size(&self.settled)?;
+        self.plain.answered(standing.call, &reply, &self.settled);
         Ok(())
     }
 
@@ -60,9 +68,11 @@ impl<H: Host + Copy> Run<H> {
         ensures refused { KeptIfRefused result self.old.plain self.new.plain }
         ensures host { self.new.host ≡ self.old.host }
     {
-        self.plain.check_wait(&self.host, ticks)?;
-        let form = settle(&self.host, self.plain.standing(), self.plain.clock + ticks);
-        self.plain.waited(&self.host, ticks, &form);
+        let standing = self.plain.measured(&mut self.lengths);
+        self.plain.check_wait(&self.host, ticks, standing)?;
+        let clock = self.plain.clock + ticks;
+        settle(&self.host, standing, clock, &mut self.settled);
+        self.plain.waited(&self.host, ticks, &self.settled);
         Ok(())
     }
 

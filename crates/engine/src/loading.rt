@@ -14,8 +14,9 @@ use crate::table::Table;
 use crate::whole::Whole;
 use files::contents::Contents;
 use forms::command::Command;
+use forms::measure::measured;
 use runs::refusal::Refusal;
-use walks::buffer::Buffer;
+use walks::buffer::{Buffer, CAPACITY};
 
 // A buffer with bytes for which it has room.
 // Kept: a function of its own. No public function of this repository asks anything of its caller, so the list's own
@@ -53,7 +54,11 @@ impl Plain {
         let goal = Contents::new(file).goal();
         let mut plain = Plain::unloaded();
         plain.file = Some(buffer_of(file));
-        plain.form = simplify(Whole { form: goal });
+        let mut lengths = [0; CAPACITY];
+        let form = measured(goal.as_bytes(), &mut lengths);
+        let mut simplified = Buffer::new(0);
+        simplify(Whole { form }, &mut simplified);
+        plain.form = simplified;
         plain
     }
 

@@ -11,6 +11,7 @@ ghost use Rattle.engine.specs.Moves.{MayBeMade, MayBeAnswered, AnsweredSo, MayBe
 
 use crate::plain::Plain;
 use crate::recording::record;
+use crate::settling::hold;
 use crate::table::Cause;
 use crate::whole::Whole;
 use events::act::Act;
@@ -24,21 +25,21 @@ use walks::buffer::Buffer;
 impl Plain {
     // A due call was made, and the form that this left has its lapsed calls ended, and is simplified.
     pub(crate) fn gone<H: Host>(&mut self, host: &H, step: &Step, form: &Buffer)
-        requires { (n : ℕ) × MayBeMade (H.Host.meaning host.now) (state_of self.old) (Go n) (act_of step.now.act) [] (content step.now.form) (content form.now) }
-        ensures { state_of self.new ≡ stepped (H.Host.meaning host.now) (state_of self.old) (Go 0) (act_of step.now.act) [] (expression_of (content step.now.form)) }
+        requires { (n : ℕ) × MayBeMade (H.Host.meaning host.now) (state_of self.old) (Go n) (act_of step.now.act) [] (content step.now.form.now) (content form.now) }
+        ensures { state_of self.new ≡ stepped (H.Host.meaning host.now) (state_of self.old) (Go 0) (act_of step.now.act) [] (expression_of (content step.now.form.now)) }
     {
         if let Act::Called { site, .. } = step.act {
             self.issued += 1;
             self.table.count(site, Cause::Called);
         }
-        let left = Whole::new(&step.form);
+        let left = Whole::new(step.form);
         self.table.count_lapsed(left, host, self.clock);
         let event = Event {
             clock: self.clock,
             act: step.act,
         };
         record(&mut self.events, event);
-        self.form = *form;
+        hold(&mut self.form, form);
     }
 
     // A pending call was answered, and the form that this left is simplified.
@@ -54,7 +55,7 @@ impl Plain {
             act: reply.step.act,
         };
         record(&mut self.events, event);
-        self.form = *form;
+        hold(&mut self.form, form);
     }
 
     // Time has passed, so many ticks, and this form was left.
@@ -66,6 +67,6 @@ impl Plain {
         let left = Whole::new(&self.form);
         self.table.count_lapsed(left, host, clock);
         self.clock = clock;
-        self.form = *form;
+        hold(&mut self.form, form);
     }
 }

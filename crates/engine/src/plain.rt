@@ -33,4 +33,11 @@ impl Plain {
     {
         Whole::new(&self.form)
     }
+
+    // The same, with the lengths of the forms in it, in a table that is lent for it.
+    pub(crate) fn measured<'a>(&'a self, lengths: &'a mut [u16]) -> Whole<'a>
+        ensures { result.form.bytes.now ≡ content self.now.form }
+    {
+        Whole::measured(&self.form, lengths)
+    }
 }

@@ -8,10 +8,11 @@ ghost use Rattle.engine.specs.Stands.{state_of};
 ghost use Rattle.engine.specs.Shown.{Shows};
 
 use crate::run::Run;
+use crate::settling::LARGEST_FORM;
 use crate::shown::SiteTotals;
 use crate::table::Totals;
 use events::event::Event;
-use forms::form::Form;
+use forms::measure::measured;
 use places::due::due_count;
 
 impl<H> Run<H> {
@@ -54,7 +55,8 @@ impl<H> Run<H> {
     pub fn due_count(&self) -> usize
         ensures { result ≡ due_count (state_of self.now.plain).expression }
     {
-        due_count(Form::new(self.form()))
+        let mut lengths = [0; LARGEST_FORM];
+        due_count(measured(self.form(), &mut lengths))
     }
 
     // How many events are recorded.

@@ -12,12 +12,17 @@ use crate::plain::Plain;
 use files::check::check_file;
 use formats::fault::Fault;
 use hosts::host::Host;
+use walks::buffer::{Buffer, CAPACITY};
 
-// The host, and what the run holds beside it.
+// The host, what the run holds beside it, and memory that its calls work in: a table to measure forms by, the form that a
+// transition leaves, and this form settled. Each call writes anew what it reads there.
 #[derive(Drop)]
 pub struct Run<H> {
     pub(crate) host: H,
     pub(crate) plain: Plain,
+    pub(crate) lengths: [u16; CAPACITY],
+    pub(crate) left: Buffer,
+    pub(crate) settled: Buffer,
 }
 
 impl<H: Host + Copy> Run<H> {
@@ -47,6 +52,13 @@ impl<H: Host + Copy> Run<H> {
             Ok(()) => Plain::loaded(file),
             Err(_) => Plain::unloaded(),
         };
-        (Run { host, plain }, judged)
+        let run = Run {
+            host,
+            plain,
+            lengths: [0; CAPACITY],
+            left: Buffer::new(0),
+            settled: Buffer::new(0),
+        };
+        (run, judged)
     }
 }

@@ -15,24 +15,32 @@ use walks::endless::Endless;
 use walks::settling::settle_into;
 
 // How many bytes the form of a run can have.
-const LARGEST_FORM: usize = 4096;
+pub(crate) const LARGEST_FORM: usize = 4096;
 
-// A form with the pending calls ended that no window reaches at a tick, and simplified.
+// Makes a buffer hold a form with the pending calls ended that no window reaches at a tick, and simplified.
 // Kept: beside the public `settle_into`, and `simplify` beside `simplify_into`. The public ones write behind what a buffer holds,
-// and may find no room. These are private, and their buffer is new, so they have no error to tell.
-pub(crate) fn settle<H: Host>(host: &H, left: Whole, tick: u32) -> Buffer
-    ensures { content result ≡ form_bytes (simplified (lapsed (H.Host.meaning host.now) tick (expression left.entry.form))) }
+// and may find no room. These are private, and empty their buffer first, so they have no error to tell.
+pub(crate) fn settle<H: Host>(host: &H, left: Whole, tick: u32, out: &mut Buffer)
+    ensures { content out.new ≡ form_bytes (simplified (lapsed (H.Host.meaning host.now) tick (expression left.entry.form))) }
 {
-    let mut form = Buffer::new(0);
-    settle_into(host, left.form, u64::from(tick), &mut form).unwrap();
-    form
+    out.clear();
+    settle_into(host, left.form, u64::from(tick), out).unwrap();
 }
 
-// A form simplified, with every pending call left.
-pub(crate) fn simplify(left: Whole) -> Buffer
-    ensures { content result ≡ form_bytes (simplified (expression left.entry.form)) }
+// Makes a buffer hold a form simplified, with every pending call left.
+pub(crate) fn simplify(left: Whole, out: &mut Buffer)
+    ensures { content out.new ≡ form_bytes (simplified (expression left.entry.form)) }
 {
-    settle(&Endless, left, 0)
+    settle(&Endless, left, 0, out);
+}
+
+// Makes a buffer hold what another holds.
+// Kept: only what is held is copied, which `*form` would not do.
+pub(crate) fn hold(held: &mut Buffer, form: &Buffer)
+    ensures { content held.new ≡ content form.now }
+{
+    held.clear();
+    held.extend_from_slice(form.as_slice()).unwrap();
 }
 
 // Refuses a form that is larger than a run can hold.

@@ -20,16 +20,23 @@ use steps::replies::make_reply;
 use steps::reply::Reply;
 use steps::step::Step;
 use walks::ages::can_reply;
+use walks::buffer::Buffer;
 
 impl Plain {
     // The transition of the due call of a number, whatever sites reply.
-    pub(crate) fn due_step(&self, n: u32) -> Result<Step, Refusal>
+    // What is lent is a table to measure forms by, and a buffer for the form that is left.
+    pub(crate) fn due_step<'b>(
+        &self,
+        n: u32,
+        lengths: &mut [u16],
+        out: &'b mut Buffer,
+    ) -> Result<Step<'b>, Refusal>
         ensures { MatchResult result
-            (λ s. (m : Meaning) → Move m (state_of self.now) (Go n) (act_of s.act) [] (content s.form))
+            (λ s. (m : Meaning) → Move m (state_of self.now) (Go n) (act_of s.act) [] (content s.form.now))
             (λ f. (m : Meaning) → Refuses m (state_of self.now) (Go n) f) }
     {
         let file = self.loaded_file()?;
-        let form = self.standing().form;
+        let form = self.measured(lengths).form;
         // Kept: `let .. else`. Of a count in the closure of `ok_or_else` nothing is known without a contract written on it.
         let Some(place) = due_place(form, n as usize) else {
             return Err(Refusal::NoneDue(due_count(form)));
@@ -38,7 +45,9 @@ impl Plain {
             return Err(Refusal::RecordFull);
         }
         let contents = Contents::new(file.as_slice());
-        Ok(make_call(form, place, contents, self.issued + 1, self.clock).unwrap())
+        let form = self.standing().form;
+        let ticket = self.issued + 1;
+        Ok(make_call(form, place, contents, ticket, self.clock, lengths, out).unwrap())
     }
 
     // The pending call of a ticket and its place in the form, if it stands.
@@ -51,15 +60,18 @@ impl Plain {
     }
 
     // The transition of a reply to a pending call that stands in the form.
-    pub(crate) fn reply_step<H: Host>(
+    // What is lent is as in `due_step`.
+    pub(crate) fn reply_step<'b, H: Host>(
         &self,
         host: &H,
         standing: Placed,
         value: u16,
-    ) -> Result<Reply, Refusal>
+        lengths: &mut [u16],
+        out: &'b mut Buffer,
+    ) -> Result<Reply<'b>, Refusal>
         requires { ((state_of self.now).loaded ≡ true) × StandsThere (state_of self.now) standing.call.ticket standing }
         ensures { MatchResult result
-            (λ x. ReplyStep (H.Host.meaning host.now) (state_of self.now) standing.call.ticket value standing.call.site (act_of x.step.act) (content self.now.form) x.pruned (content x.step.form))
+            (λ x. ReplyStep (H.Host.meaning host.now) (state_of self.now) standing.call.ticket value standing.call.site (act_of x.step.act) (content self.now.form) x.pruned (content x.step.form.now))
             (λ f. Refuses (H.Host.meaning host.now) (state_of self.now) (Answer standing.call.ticket value) f) }
     {
         let Placed { place, call } = standing;
@@ -69,6 +81,7 @@ impl Plain {
         if self.events.is_full() {
             return Err(Refusal::RecordFull);
         }
-        Ok(make_reply(self.standing().form, place, value).unwrap())
+        let form = self.measured(lengths).form;
+        Ok(make_reply(form, place, value, out).unwrap())
     }
 }

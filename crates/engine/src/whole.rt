@@ -5,6 +5,7 @@ ghost use Rattle.walks.specs.Capacity.{capacity};
 ghost use Rattle.walks.specs.Contents.{content};
 
 use forms::form::Form;
+use forms::measure::measured;
 use walks::buffer::Buffer;
 
 // Bytes that are a form, and no more than a buffer can hold.
@@ -23,6 +24,16 @@ impl<'a> Whole<'a> {
     {
         Whole {
             form: Form::new(buffer.as_slice()),
+        }
+    }
+
+    // The same, with the lengths of the forms in it, in a table that is lent for it.
+    pub(crate) fn measured(buffer: &'a Buffer, lengths: &'a mut [u16]) -> Whole<'a>
+        requires { IsForm (content buffer.now) }
+        ensures { result.form.bytes.now ≡ content buffer.now }
+    {
+        Whole {
+            form: measured(buffer.as_slice(), lengths),
         }
     }
 }

@@ -61,20 +61,16 @@ module _ (bs : List ℕ) (whole : WholeCommand bs 0) (b : ℕ) (is : byte_at bs 
 
   -- what stands behind the command
   abbrev Behind : List ℕ → List ℕ → Type 0
-  Behind l r = TwoParts (between (width_of b) (length bs) bs) l r
+  Behind l r = TwoParts (drop (width_of b) bs) l r
 
-  behind_it : {l r : List ℕ} → Behind l r → TwoParts (drop (width_of b) bs) l r
-  behind_it {l} {r} parts = subst (λ (t : List ℕ). TwoParts t l r) (between_to_end bs (width_of b) (length bs) (omega arith)) parts
-
-  pub headed_two : (make : Expression → Expression → Expression) → opened b bs ≡ of_two make → {l r : List ℕ} → TwoParts (between (width_of b) (length bs) bs) l r → make (expression_of l) (expression_of r) ≡ expression_of bs
+  pub headed_two : (make : Expression → Expression → Expression) → opened b bs ≡ of_two make → {l r : List ℕ} → Behind l r → make (expression_of l) (expression_of r) ≡ expression_of bs
   headed_two make made {l} {r} parts =
-      let both = behind_it parts in
       let some = wide (byte_at bs 0) whole.of_a_form in
       let behind = drop (width_of b) bs in
       let k = length bs - 1 in
       let enough : length behind ≤ k = simp length-drop (omega (arith, some_bytes, ap width_of is)) in
-      let left = both.left_read k enough in
-      let right = both.right_read k enough in
+      let left = parts.left_read k enough in
+      let right = parts.right_read k enough in
       sym (first_step bs (opening_is ∙ made) some_bytes ∙ ap (λ n. (continued (of_two make) (drop (width_of n) bs) (λ l. read k l)).expression) is ∙ ap₂ make left right)
 
   -- the parts of a form are forms; o are the bytes in front of them
@@ -83,7 +79,6 @@ module _ (bs : List ℕ) (whole : WholeCommand bs 0) (b : ℕ) (is : byte_at bs 
   parts_are_forms o {l} {r} make made written there parts form =
       let f = expression_of l in
       let g = expression_of r in
-      let both = behind_it parts in
       let behind : drop (width_of b) bs ≡ bytes f ++ bytes g = append_cancel_left o (drop (width_of b) bs) (bytes f ++ bytes g) (sym there ∙ sym form ∙ ap bytes (sym (headed_two make made parts)) ∙ written f g) in
-      let same = both.exact f g behind in
+      let same = parts.exact f g behind in
       (sym same.0, sym same.1)

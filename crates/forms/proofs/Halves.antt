@@ -1,10 +1,10 @@
 -- The two parts of a form, as reading takes them. Assumes nothing.
-use Rattle.std.proofs.Common.{◌≡◌, ℕ, ◌+◌, ◌-◌, ◌≤◌, List, [], ◌++◌, length, take, drop, sym, refl, ap, ◌∙◌, subst, inl, inr, arith, Option, Some, None, IfSome, unwrap_or}
+use Rattle.std.proofs.Common.{◌≡◌, ℕ, ◌+◌, ◌-◌, ◌≤◌, List, [], ◌++◌, length, take, drop, sym, refl, ap, ◌∙◌, subst, inl, inr, arith, Option, Some, None, IfSome, MatchOption, unwrap_or}
 use Rattle.std.specs.List.{between}
 use Rattle.std.proofs.lemmas.List.{length-append, drop-drop, drop_all, drop_at, take_at, take-append-drop}
 use Rattle.std.proofs.lemmas.Slice.{between_to_end}
 use Rattle.std.proofs.lemmas.Bool.{true≢false}
-use Rattle.orc.specs.Expressions.{bytes}
+use Rattle.orc.specs.Expressions.{bytes, size}
 use Rattle.forms.specs.Reading.{read, expression_of}
 use Rattle.forms.specs.Shapes.{FormAt, without_parts, with_parts}
 use Rattle.forms.specs.Heads.{TwoParts}
@@ -14,7 +14,7 @@ use Rattle.forms.proofs.Lenient.{read_as, read_enough, form_reads, left_over}
 use Rattle.forms.proofs.ReadBack.{read_alone}
 
 -- a form ends in one place
-ends_once : {bs : List ℕ} {at end end' : ℕ} → FormAt bs at end → FormAt bs at end' → end ≡ end'
+pub ends_once : {bs : List ℕ} {at end end' : ℕ} → FormAt bs at end → FormAt bs at end' → end ≡ end'
 ends_once (without_parts _ _ is) (without_parts _ _ is') = is ∙ sym is'
 ends_once (without_parts _ leaf _) (with_parts _ split _ _) = absurd (true≢false (sym split ∙ leaf))
 ends_once (with_parts _ split _ _) (without_parts _ leaf _) = absurd (true≢false (sym split ∙ leaf))
@@ -70,3 +70,23 @@ pub two_parts : (bs : List ℕ) (o : Option ℕ) → IfSome o (λ end. FormAt bs
     → TwoParts bs (take (unwrap_or o (length bs)) bs) (drop (unwrap_or o (length bs)) bs)
 two_parts bs None found only = from_start bs (length bs) (behind_all_bytes bs 0 (length bs) (omega arith) (omega arith) (λ e form. cc (only e form)) refl)
 two_parts bs (Some end) form only = from_start bs end (behind_a_form bs 0 end (omega arith) (form_reads bs form).within form)
+
+-- It ends there or earlier.
+pub ends_within : (bs : List ℕ) (o : Option ℕ) → IfSome o (λ end. FormAt bs 0 end) → unwrap_or o (length bs) ≤ length bs
+ends_within bs None found = omega arith
+ends_within bs (Some end) form = (form_reads bs form).within
+
+-- What is read is as long as the form at the front.
+pub size_read : (bs : List ℕ) (n : ℕ) → FormAt bs 0 n → size (expression_of bs) ≡ n
+unfolding expression_of
+size_read bs n form =
+    let there = form_reads bs form in
+    let lengths : length bs ≡ length (between 0 n bs) + length (drop n bs) = ap length (split_there bs 0 n (omega arith) there.within) ∙ length-append (between 0 n bs) (drop n bs) in
+    let whole : read (length bs) bs ≡ read_as there.expression (drop n bs)
+    = ap (read (length bs)) (split_there bs 0 n (omega arith) there.within) ∙ there.reads (length bs) (drop n bs) (omega arith) in
+    ap (λ r. size r.expression) whole ∙ omega (arith, there.sized)
+
+pub size_there : (bs : List ℕ) (o : Option ℕ) → IfSome o (λ end. FormAt bs 0 end) → ((end : ℕ) → FormAt bs 0 end → o ≡ Some end)
+    → MatchOption o ((n : ℕ) → FormAt bs 0 n → ⊥) (λ n. FormAt bs 0 n × (size (expression_of bs) ≡ n))
+size_there bs None found only = λ n form. cc (only n form)
+size_there bs (Some n) form only = (form, size_read bs n form)

@@ -1,16 +1,20 @@
 -- How a list is read that may be no form: where its first form ends, and that no more of it counts. Assumes nothing.
-use Rattle.std.proofs.Common.{◌≡◌, ℕ, zero, suc, ◌+◌, ◌-◌, ◌<◌, ◌≤◌, true, false, ◌⊎◌, List, [], ◌++◌, length, take, drop, sym, refl, ap, ◌∙◌, subst, inl, inr, append_assoc, arith, take-add, Option, Some, None, IfSome}
+use Rattle.std.proofs.Common.{◌≡◌, ℕ, zero, suc, ◌+◌, ◌-◌, ◌<◌, ◌≤◌, true, false, ◌⊎◌, List, [], ◌++◌, length, take, drop, sym, refl, ap, ◌∙◌, subst, subst₂, inl, inr, append_assoc, arith, take-add, Option, Some, None, IfSome}
 use Rattle.std.specs.List.{between}
 use Rattle.std.proofs.lemmas.List.{length-append, length-drop, drop-drop, get_or-drop, nil_from_length}
 use Rattle.std.proofs.lemmas.Bool.{true≢false}
 use Rattle.std.proofs.lemmas.List.Edits.{length-between, get_or-between}
-use Rattle.orc.specs.Expressions.{Expression, stop}
+use Rattle.orc.specs.Expressions.{Expression, stop, bytes, size}
 use Rattle.formats.specs.Operands.{byte_at}
 use Rattle.formats.specs.Widths.{width_of}
-use Rattle.forms.specs.Reading.{Opening, alone, of_two, opening, Read, continued, read}
+use Rattle.forms.specs.Reading.{Opening, alone, of_two, no_form, opened, opening, Read, continued, read}
 use Rattle.forms.specs.Shapes.{has_parts, WholeCommand, FormAt, without_parts, with_parts}
+use Rattle.forms.specs.Commands.{byte_of}
+use Rattle.forms.specs.declared.command.Command.{Command as Named}
+use Rattle.forms.specs.declared.command.Command.TheVariants.{Stop, SiteCall, DefinitionCall, Parallel, Sequential, Pruning, Pending}
+use Rattle.forms.proofs.Naming.{command_of}
 use Rattle.forms.proofs.Counting.{wide}
-use Rattle.forms.proofs.Openings.{Begins, with_none, with_alone, with_two, begins_with, opening_front, behind_front}
+use Rattle.forms.proofs.Openings.{Begins, with_none, with_alone, with_two, begins_with, opening_whole, opening_front, behind_front}
 
 abbrev behind : List ℕ → List ℕ
 behind l = drop (width_of (byte_at l 0)) l
@@ -104,11 +108,33 @@ joined_between bs i j k first second =
     ap (λ n. take n (drop i bs)) all ∙ take-add (j - i) (k - j) (drop i bs)
     ∙ ap (λ l. between i j bs ++ take (k - j) l) (drop-drop (j - i) i bs ∙ ap (λ n. drop n bs) there)
 
--- A stretch with the shape of a form lies within the list, and is read as some expression.
+-- how long an expression is by what it begins with, w being the width of that
+abbrev Sized : ℕ → Opening → Type 0
+Sized w (alone e) = size e ≡ w
+Sized w (of_two make) = (f g : Expression) → size (make f g) ≡ w + (size f + size g)
+Sized w no_form = Unit {0}
+
+opened_sized : (l : List ℕ) (c : Named) → Sized (width_of (byte_of c)) (opened (byte_of c) l)
+unfolding bytes
+opened_sized l Stop = refl
+opened_sized l SiteCall = refl
+opened_sized l DefinitionCall = refl
+opened_sized l Parallel = λ f g. omega (arith, length-append (bytes f) (bytes g))
+opened_sized l Sequential = λ f g. omega (arith, length-append (bytes f) (bytes g))
+opened_sized l Pruning = λ f g. omega (arith, length-append (bytes f) (bytes g))
+opened_sized l Pending = refl
+
+opening_sized : (l : List ℕ) → byte_at l 0 ≤ 6 → width_of (byte_at l 0) ≤ length l → Sized (width_of (byte_at l 0)) (opening l)
+opening_sized l command whole =
+    let c = command_of (byte_at l 0) command in
+    subst₂ (λ (w : ℕ) (o : Opening). Sized w o) (ap width_of (sym c.1)) (sym (opening_whole l (byte_of c.0) c.1 whole)) (opened_sized l c.0)
+
+-- A stretch with the shape of a form lies within the list, and is read as some expression, which is as long.
 pub record ReadThere (bs : List ℕ) (at end : ℕ) : Type 0 where
   pub some : at < end
   pub within : end ≤ length bs
   pub expression : Expression
+  pub sized : at + size expression ≡ end
   pub reads : ReadsAs (between at end bs) expression
 
 module _ (bs : List ℕ) where
@@ -130,15 +156,20 @@ module _ (bs : List ℕ) where
 
     alone_there : has_parts (byte_at bs at) ≡ false → Begins its_bytes → ReadThere bs at (at + width_of (byte_at bs at))
     alone_there leaf (with_none _ missing) = no_command missing
-    alone_there leaf (with_alone e is _ _ _) =
+    alone_there leaf (with_alone e is first all _) =
         let some = wide (byte_at bs at) whole.of_a_form in
-        record { some = omega arith; within = whole.whole; expression = e; reads = alone_reads its_bytes e its_command is }
+        let long = subst (λ (o : Opening). Sized (width_of (byte_at its_bytes 0)) o) is (opening_sized its_bytes first all) in
+        record { some = omega arith; within = whole.whole; expression = e; sized = ap (λ n. at + n) (long ∙ ap width_of its_first); reads = alone_reads its_bytes e its_command is }
     alone_there leaf (with_two _ _ _ _ split) = absurd (true≢false (sym split ∙ ap has_parts its_first ∙ leaf))
 
     two_there : has_parts (byte_at bs at) ≡ true → Begins its_bytes → {middle end : ℕ} → ReadThere bs (at + width_of (byte_at bs at)) middle → ReadThere bs middle end → ReadThere bs at end
     two_there split (with_none _ missing) f g = no_command missing
     two_there split (with_alone _ _ _ _ leaf) f g = absurd (true≢false (sym split ∙ ap has_parts (sym its_first) ∙ leaf))
-    two_there split (with_two make is _ _ _) {middle} {end} f g =
+    two_there split (with_two make is own all _) {middle} {end} f g =
+        let long = subst (λ (o : Opening). Sized (width_of (byte_at its_bytes 0)) o) is (opening_sized its_bytes own all) f.expression g.expression in
+        let width : width_of (byte_at its_bytes 0) ≡ width_of (byte_at bs at) = ap width_of its_first in
+        let left = f.sized in
+        let right = g.sized in
         let start = at + width_of (byte_at bs at) in
         let first = f.some in
         let second = g.some in
@@ -148,6 +179,7 @@ module _ (bs : List ℕ) where
           some = omega arith;
           within = g.within;
           expression = make f.expression g.expression;
+          sized = omega arith;
           reads = rw together (two_read its_bytes (between start middle bs) (between middle end bs) make f.expression g.expression its_command is f.reads g.reads);
         }
 

@@ -8,3 +8,4 @@ pub mod Halves
 pub mod Fronts
 pub mod Written
 pub mod Decoding
+pub mod Telling

@@ -1,22 +1,24 @@
 // A form, its head and its parts.
-ghost use Rattle.std.specs.Prelude.{◌≡◌, ◌+◌, ◌≤◌, length};
-ghost use Rattle.orc.specs.Expressions.{parameter_bytes};
-ghost use Rattle.orc.specs.Variables.{is_variable};
-ghost use Rattle.forms.specs.Heads.{expression, parameter_of, headed, IsForm, MadeOf, Longer, MadeOfForms, TwoParts};
-ghost use Rattle.forms.specs.Reading.{parameter_at};
+ghost use Rattle.forms.specs.Lengths.{Told};
 
 use crate::command::Command;
 use crate::ends::form_end;
 use crate::mark::Mark;
+use crate::measure::{length_at, lengths_from};
 use crate::pending::Pending;
 use crate::scan::{Rule, Whole};
 use formats::operands::Operand;
 
 // Bytes that are read as a form. What stands behind a complete form does not count, and where the bytes are no form, what
 // cannot be read is stop.
+//
+// Beside the bytes stands a table, which may be shorter or empty. Where it has a number, that is how many bytes the form has that
+// begins at this offset, so that its end need not be looked for. What is read is the same with any table.
 #[derive(Clone, Copy)]
 pub struct Form<'a> {
     pub(crate) bytes: &'a [u8],
+    pub(crate) lengths: &'a [u16],
+    ghost told: { Told bytes.now lengths.now },
 }
 
 // What a call is made with: a value, or a variable whose value has yet to arrive.
@@ -38,30 +40,24 @@ pub enum Head<'a> {
     Pending(Pending),
 }
 
-// The two parts that the bytes behind a command are, one behind the other.
-fn parts<'a>(bytes: &'a [u8]) -> (Form<'a>, Form<'a>)
-    ensures { TwoParts bytes.now result.0.bytes.now result.1.bytes.now }
-{
-    let end = form_end(bytes, 0).unwrap_or(bytes.len());
-    let (left, right) = bytes.split_at(end);
-    (Form::new(left), Form::new(right))
-}
-
-// The parameter at an offset.
-fn parameter_at(bytes: &[u8], at: usize) -> Parameter
-    requires { at + 3 ≤ length bytes.now }
-    ensures { parameter_of result ≡ parameter_at bytes.now at }
-{
-    let number = u16::at(bytes, at + 1).unwrap();
-    match Mark::try_from(bytes[at]) {
-        Ok(Mark::Value) => Parameter::Value(number),
-        _ => Parameter::Variable(number),
-    }
-}
-
 impl Parameter {
-    ghost use Rattle.std.specs.Prelude.{ℕ, MatchOption, ◌≢◌};
-    ghost use Rattle.orc.specs.Expressions.{value};
+    ghost use Rattle.std.specs.Prelude.{◌≡◌, ℕ, ◌+◌, ◌≤◌, length, MatchOption, ◌≢◌};
+    ghost use Rattle.orc.specs.Expressions.{value, parameter_bytes};
+    ghost use Rattle.orc.specs.Variables.{is_variable};
+    ghost use Rattle.forms.specs.Heads.{parameter_of};
+    ghost use Rattle.forms.specs.Reading.{parameter_at};
+
+    // The parameter at an offset.
+    fn read(bytes: &[u8], at: usize) -> Parameter
+        requires { at + 3 ≤ length bytes.now }
+        ensures { parameter_of result ≡ parameter_at bytes.now at }
+    {
+        let number = u16::at(bytes, at + 1).unwrap();
+        match Mark::try_from(bytes[at]) {
+            Ok(Mark::Value) => Parameter::Value(number),
+            _ => Parameter::Variable(number),
+        }
+    }
 
     // Its value, if it is one.
     pub fn value(self) -> Option<u16>
@@ -95,6 +91,7 @@ impl Parameter {
 }
 
 impl<'a> Head<'a> {
+    ghost use Rattle.std.specs.Prelude.{◌≡◌};
     ghost use Rattle.forms.specs.Heads.{parts_of, command_of};
 
     // The command that it begins with.
@@ -126,11 +123,18 @@ impl<'a> Head<'a> {
 }
 
 impl<'a> Form<'a> {
+    ghost use Rattle.std.specs.Prelude.{◌≡◌, ℕ, ◌≤◌, length, take, drop, IfSome, Some, MatchOption};
+    ghost use Rattle.std.specs.List.{between};
+    ghost use Rattle.orc.specs.Expressions.{size};
+    ghost use Rattle.forms.specs.Shapes.{FormAt};
+    ghost use Rattle.forms.specs.Heads.{expression, headed, IsForm, MadeOf, Longer, MadeOfForms, TwoParts};
+
     // Any bytes, to be read as a form.
     pub fn new(bytes: &'a [u8]) -> Form<'a>
         ensures { result.bytes.now ≡ bytes.now }
     {
-        Form { bytes }
+        let lengths = &[];
+        Form { bytes, lengths }
     }
 
     // The bytes that it is read from.
@@ -138,6 +142,67 @@ impl<'a> Form<'a> {
         ensures { result.now ≡ self.entry.bytes.now }
     {
         self.bytes
+    }
+
+    // How many bytes the form has that stands at the front, if one does: as the table tells, or else by a scan.
+    fn end(self) -> Option<usize>
+        ensures found { IfSome result (λ end. FormAt self.entry.bytes.now 0 end) }
+        ensures only { (end : ℕ) → FormAt self.entry.bytes.now 0 end → result ≡ Some end }
+    {
+        let told = length_at(self.lengths, 0);
+        if told > 0 && told <= self.bytes.len() {
+            return Some(told);
+        }
+        form_end(self.bytes, 0)
+    }
+
+    // How many bytes the expression has that is read from it, if a form stands whole at its front.
+    pub fn size(self) -> Option<usize>
+        ensures { MatchOption result ((n : ℕ) → FormAt self.entry.bytes.now 0 n → ⊥) (λ n. FormAt self.entry.bytes.now 0 n × (size (expression self.entry) ≡ n)) }
+    {
+        self.end()
+    }
+
+    // The stretch from an offset up to another, if it is there, to be read as a form.
+    pub fn get(self, at: usize, end: usize) -> Option<Form<'a>>
+        ensures { MatchOption result (at ≤ end → end ≤ length self.entry.bytes.now → ⊥) (λ f. (at ≤ end) × (end ≤ length self.entry.bytes.now) × (f.bytes.now ≡ between at end self.entry.bytes.now)) }
+    {
+        if at > end || end > self.bytes.len() {
+            return None;
+        }
+        Some(self.behind(at).before(end - at))
+    }
+
+    // What stands from an offset on.
+    fn behind(self, at: usize) -> Form<'a>
+        requires { at ≤ length self.bytes.now }
+        ensures { result.bytes.now ≡ drop at self.entry.bytes.now }
+    {
+        Form {
+            bytes: &self.bytes[at..],
+            lengths: lengths_from(self.lengths, at),
+        }
+    }
+
+    // What stands in front of an offset.
+    fn before(self, at: usize) -> Form<'a>
+        requires { at ≤ length self.bytes.now }
+        ensures { result.bytes.now ≡ take at self.entry.bytes.now }
+    {
+        Form {
+            bytes: &self.bytes[..at],
+            lengths: self.lengths,
+        }
+    }
+
+    // The two parts that stand behind a command of a width, one behind the other.
+    fn parts(self, width: usize) -> (Form<'a>, Form<'a>)
+        requires { width ≤ length self.bytes.now }
+        ensures { TwoParts (drop width self.entry.bytes.now) result.0.bytes.now result.1.bytes.now }
+    {
+        let both = self.behind(width);
+        let end = both.end().unwrap_or(both.bytes.len());
+        (both.before(end), both.behind(end))
     }
 
     // Its command with the operands, and its parts.
@@ -155,22 +220,22 @@ impl<'a> Form<'a> {
             Command::Stop => Head::Stop,
             Command::SiteCall => Head::SiteCall {
                 site: bytes[1],
-                parameter: parameter_at(bytes, 2),
+                parameter: Parameter::read(bytes, 2),
             },
             Command::DefinitionCall => Head::DefinitionCall {
                 number: bytes[1],
-                parameter: parameter_at(bytes, 2),
+                parameter: Parameter::read(bytes, 2),
             },
             Command::Parallel => {
-                let (f, g) = parts(&bytes[1..]);
+                let (f, g) = self.parts(1);
                 Head::Parallel(f, g)
             }
             Command::Sequential => {
-                let (f, g) = parts(&bytes[2..]);
+                let (f, g) = self.parts(2);
                 Head::Sequential(bytes[1], f, g)
             }
             Command::Pruning => {
-                let (f, g) = parts(&bytes[2..]);
+                let (f, g) = self.parts(2);
                 Head::Pruning(bytes[1], f, g)
             }
             Command::Pending => Head::Pending(Pending::read(bytes, 0).unwrap()),

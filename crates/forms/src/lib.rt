@@ -6,6 +6,7 @@ pub mod ends;
 pub mod exact;
 pub mod form;
 pub mod mark;
+pub mod measure;
 pub mod pending;
 mod scan;
 pub mod walks;

@@ -16,14 +16,14 @@ use Rattle.steps.specs.declared.framed.Framed.{Framed}
 abbrev pub CallOutcome : List Definition → ℕ → ℕ → List ℕ → ℕ → Option Step → Type 0
 CallOutcome ds t k bs p r = MatchOption r
     ((a : Act) (bs' : List ℕ) → Made ds t k bs p a bs' → capacity < length bs')
-    (λ s. Made ds t k bs p (act_of s.act) (content s.form))
+    (λ s. Made ds t k bs p (act_of s.act) (content s.form.now))
 
 -- The pending call at the offset p is answered as the frame nearest to it takes the reply w; or for whatever that could come
 -- to there is no room.
 abbrev pub ReplyOutcome : List ℕ → ℕ → ℕ → Option Stretch → Option Reply → Type 0
 ReplyOutcome bs p w frame r = MatchOption r
     ((a : Act) (q : Option Stretch) (bs' : List ℕ) → Replied bs p w frame a q bs' → capacity < length bs')
-    (λ s. Replied bs p w frame (act_of s.step.act) s.pruned (content s.step.form))
+    (λ s. Replied bs p w frame (act_of s.step.act) s.pruned (content s.step.form.now))
 
 -- what the frame around a call is read as
 abbrev pub around : Framed → Expression

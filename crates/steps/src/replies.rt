@@ -16,13 +16,14 @@ use forms::command::Command;
 use forms::form::{Form, Head};
 use places::frames::nearest_frame;
 use places::stretch::Stretch;
+use walks::buffer::Buffer;
 
 // Answers the pending call at a place that no frame surrounds: it becomes stop, and the value is published.
-fn publish(form: Form, place: usize, value: u16) -> Option<Reply>
+fn publish<'b>(form: Form, place: usize, value: u16, out: &'b mut Buffer) -> Option<Reply<'b>>
     ensures { ReplyOutcome form.entry.bytes.now place value None result }
 {
     let call = Section::of_command(form, place, Command::Pending)?;
-    let form = call.replaced([Command::Stop as u8]).ok()?;
+    let form = call.replaced([Command::Stop as u8], out).ok()?;
     let act = Act::Out(value);
     Some(Reply {
         step: Step { act, form },
@@ -32,10 +33,10 @@ fn publish(form: Form, place: usize, value: u16) -> Option<Reply>
 
 // Answers a call in the left part of a sequential: a copy of the right part begins beside it, with the value for the
 // variable, and the call becomes stop.
-fn spawn(call: Framed, copy: Instance) -> Option<Reply>
+fn spawn<'b>(call: Framed, copy: Instance, out: &'b mut Buffer) -> Option<Reply<'b>>
     ensures { (f : Expression) → sequential_of copy.entry.variable f (expression copy.entry.form) ≡ around call.entry → FramedOutcome call.entry copy.entry.value result }
 {
-    let form = call.frame.replaced(Beside { call, copy }).ok()?;
+    let form = call.frame.replaced(Beside { call, copy }, out).ok()?;
     let act = Act::Inner;
     Some(Reply {
         step: Step { act, form },
@@ -45,11 +46,11 @@ fn spawn(call: Framed, copy: Instance) -> Option<Reply>
 
 // Answers a call in the right part of a pruning: it becomes its left part, with the value for the variable, and the right
 // part ends.
-fn bind(call: Framed, left: Instance, right: Form) -> Option<Reply>
+fn bind<'b>(call: Framed, left: Instance, right: Form, out: &'b mut Buffer) -> Option<Reply<'b>>
     requires { inside call.frame ≡ 5 ∷ left.variable ∷ (left.form.bytes.now ++ right.bytes.now) }
     ensures { IsForm right.entry.bytes.now → pruning_of left.entry.variable (expression left.entry.form) (expression right.entry) ≡ around call.entry → FramedOutcome call.entry left.entry.value result }
 {
-    let form = call.frame.replaced(left).ok()?;
+    let form = call.frame.replaced(left, out).ok()?;
     let Stretch { end, .. } = call.frame.stretch;
     let pruned = Stretch {
         at: end - right.as_bytes().len(),
@@ -63,7 +64,7 @@ fn bind(call: Framed, left: Instance, right: Form) -> Option<Reply>
 }
 
 // Answers the pending call at a place to which a frame is the nearest.
-fn hand_over(frame: Section, place: usize, value: u16) -> Option<Reply>
+fn hand_over<'b>(frame: Section, place: usize, value: u16, out: &'b mut Buffer) -> Option<Reply<'b>>
     ensures { IsForm (inside frame.entry) → ReplyOutcome frame.entry.form.bytes.now place value (Some frame.entry.stretch) result }
 {
     let call = Framed::new(frame, place)?;
@@ -74,7 +75,7 @@ fn hand_over(frame: Section, place: usize, value: u16) -> Option<Reply>
                 variable,
                 value,
             };
-            spawn(call, copy)
+            spawn(call, copy, out)
         }
         Head::Pruning(variable, left, right) => {
             let left = Instance {
@@ -82,7 +83,7 @@ fn hand_over(frame: Section, place: usize, value: u16) -> Option<Reply>
                 variable,
                 value,
             };
-            bind(call, left, right)
+            bind(call, left, right, out)
         }
         _ => None,
     }
@@ -91,11 +92,16 @@ fn hand_over(frame: Section, place: usize, value: u16) -> Option<Reply>
 // Answers the pending call at a place of a form with a value. The nearest frame takes it: a sequential begins a copy of its
 // right part with the value for its variable, and a pruning becomes its left part with the value for its variable. Without
 // a frame the value is published. There is none if no whole call can stand there, or if there is no room.
-pub fn make_reply(form: Form, place: usize, value: u16) -> Option<Reply>
+pub fn make_reply<'b>(
+    form: Form,
+    place: usize,
+    value: u16,
+    out: &'b mut Buffer,
+) -> Option<Reply<'b>>
     ensures { IsForm form.entry.bytes.now → ReplyOutcome form.entry.bytes.now place value (nearest_frame place (expression form.entry)) result }
 {
     match nearest_frame(form, place) {
-        None => publish(form, place, value),
-        Some(stretch) => hand_over(Section { form, stretch }, place, value),
+        None => publish(form, place, value, out),
+        Some(stretch) => hand_over(Section { form, stretch }, place, value, out),
     }
 }

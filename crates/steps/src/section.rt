@@ -41,18 +41,22 @@ impl<'a> Section<'a> {
         ensures { result.bytes.now ≡ inside self.entry }
     {
         let Stretch { at, end } = self.stretch;
-        Form::new(&self.form.as_bytes()[at..end])
+        self.form.get(at, end).unwrap()
     }
 
-    // The whole form with something else in place of the stretch.
-    pub(crate) fn replaced<R: Replacement>(self, new: R) -> Result<Buffer, Full>
+    // The whole form with something else in place of the stretch, in a buffer. What that held does not count.
+    pub(crate) fn replaced<'b, R: Replacement>(
+        self,
+        new: R,
+        out: &'b mut Buffer,
+    ) -> Result<&'b Buffer, Full>
         ensures { Built result (replaced self.entry (R.written new)) }
     {
         let bytes = self.form.as_bytes();
         let Stretch { at, end } = self.stretch;
-        let mut out = Buffer::new(0);
+        out.clear();
         out.extend_from_slice(&bytes[..at])?;
-        new.put(&mut out)?;
+        new.put(out)?;
         out.extend_from_slice(&bytes[end..])?;
         Ok(out)
     }

@@ -2,9 +2,9 @@
 use events::act::Act;
 use walks::buffer::Buffer;
 
-// What the transition shows, and the whole form then.
+// What the transition shows, and the whole form then, in the buffer that was lent for it.
 #[derive(Clone, Copy)]
-pub struct Step {
+pub struct Step<'a> {
     pub act: Act,
-    pub form: Buffer,
+    pub form: &'a Buffer,
 }

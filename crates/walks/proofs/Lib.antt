@@ -4,3 +4,4 @@ pub mod Windows
 pub mod Closing
 pub mod Settled
 pub mod Unlapsed
+pub mod Frees

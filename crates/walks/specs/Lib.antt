@@ -4,3 +4,4 @@ pub mod Contents
 pub mod Endless
 pub mod Rooms
 pub mod Changes
+pub mod Sets

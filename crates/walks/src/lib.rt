@@ -9,3 +9,4 @@ pub mod endless;
 mod heads;
 mod rooms;
 pub mod settling;
+mod variables;

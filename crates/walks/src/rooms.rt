@@ -44,6 +44,14 @@ fn room_behind(form: Form, room: usize) -> Option<usize>
 pub(crate) fn check_room(out: &Buffer, form: Form) -> Result<(), Full>
     ensures { MatchResult result (λ _. HasRoom out.now (size (expression form.entry))) (λ _. capacity < length (content out.now) + size (expression form.entry)) }
 {
-    room_behind(form, CAPACITY - out.len()).ok_or(Full)?;
-    Ok(())
+    let room = CAPACITY - out.len();
+    match form.size() {
+        Some(size) if size <= room => Ok(()),
+        Some(_) => Err(Full),
+        // Where the bytes are no form, what is missing is read as stop, and takes room too.
+        None => {
+            room_behind(form, room).ok_or(Full)?;
+            Ok(())
+        }
+    }
 }

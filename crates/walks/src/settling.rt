@@ -5,13 +5,16 @@ ghost use Rattle.orc.specs.Expressions.{Expression, parallel, pruning, bytes as 
 ghost use Rattle.orc.specs.Simplified.{is_stop, parallel_of, pruning_of, simplified};
 ghost use Rattle.orc.specs.Calls.{lapsed};
 ghost use Rattle.forms.specs.Heads.{expression};
+ghost use Rattle.orc.specs.Variables.{free};
 ghost use Rattle.walks.specs.Contents.{content, HasRoom, Writes};
+ghost use Rattle.walks.specs.Sets.{FreeIn};
 
 use crate::ages::within_reach;
 use crate::buffer::{Buffer, add};
-use crate::copies::put;
 use crate::endless::Endless;
+use crate::heads::put_call;
 use crate::rooms::{check_room, head_of};
+use crate::variables::{COUNT, Variables};
 use fixed::full::Full;
 use forms::command::Command;
 use forms::form::{Form, Head};
@@ -49,11 +52,11 @@ fn close_parallel(out: &mut Buffer, start: usize, middle: usize)
 }
 
 // Simplifies the pruning that stands last in a buffer, likewise: with a stop on the right it becomes its left part, if its
-// variable is not free there.
+// variable is not free there. The variables that are free in its left part are known.
 // Kept: beside `close_parallel`, not one function with it. Only here the left part is asked about its variable.
-fn close_pruning(out: &mut Buffer, variable: u8, start: usize, middle: usize)
+fn close_pruning(out: &mut Buffer, variable: u8, known: Variables, start: usize, middle: usize)
     requires { (start + 2 < middle) × (middle < length (content out.old)) }
-    ensures content { (o : List ℕ) (f g : Expression) → length o ≡ start → length o + 2 + size f ≡ middle → content out.old ≡ o ++ form_bytes (pruning variable f g) → content out.new ≡ o ++ form_bytes (pruning_of variable f g) }
+    ensures content { (o : List ℕ) (f g : Expression) → length o ≡ start → length o + 2 + size f ≡ middle → FreeIn known.bits f → content out.old ≡ o ++ form_bytes (pruning variable f g) → content out.new ≡ o ++ form_bytes (pruning_of variable f g) }
     ensures within { (start < length (content out.new)) × (length (content out.new) ≤ length (content out.old)) }
 {
     if !stops_from(out, middle) {
@@ -61,55 +64,81 @@ fn close_pruning(out: &mut Buffer, variable: u8, start: usize, middle: usize)
     }
     let from = start + Command::Pruning.width();
     let left = Form::new(&out.as_slice()[from..middle]);
-    if !left.is_free(variable) {
+    if !is_free(variable, known, left) {
         keep_part(out, start, from, middle);
     }
 }
 
-// Writes a form for which there is room, lapsed at a tick and simplified.
-fn settle<H: Host>(out: &mut Buffer, host: &H, form: Form, tick: u64)
+// Whether a variable stands free in a form, of whose free variables those below 32 are known.
+fn is_free(variable: u8, known: Variables, form: Form) -> bool
+    ensures { FreeIn known.bits (expression form.entry) → result ≡ free variable (expression form.entry) }
+{
+    if variable < COUNT {
+        known.holds(variable)
+    } else {
+        form.is_free(variable)
+    }
+}
+
+// Writes a form for which there is room, lapsed at a tick and simplified, and tells which variables are free in what is written.
+fn settle<H: Host>(out: &mut Buffer, host: &H, form: Form, tick: u64) -> Variables
     requires { HasRoom out.old (size (expression form)) }
     ensures content { content out.new ≡ content out.old ++ form_bytes (simplified (lapsed (H.Host.meaning host.now) tick (expression form.entry))) }
     ensures within { (length (content out.old) < length (content out.new)) × (length (content out.new) ≤ length (content out.old) + size (expression form.entry)) }
+    ensures free { FreeIn result.bits (simplified (lapsed (H.Host.meaning host.now) tick (expression form.entry))) }
 {
     let start = out.len();
     match head_of(form) {
-        Head::Stop | Head::SiteCall { .. } | Head::DefinitionCall { .. } => put(out, form, None),
+        Head::Stop => {
+            add(out, &[Command::Stop as u8]);
+            Variables::none()
+        }
+        Head::SiteCall { site, parameter } => {
+            put_call(out, Command::SiteCall, site, parameter);
+            Variables::of(parameter)
+        }
+        Head::DefinitionCall { number, parameter } => {
+            put_call(out, Command::DefinitionCall, number, parameter);
+            Variables::of(parameter)
+        }
         Head::Parallel(f, g) => {
             add(out, &[Command::Parallel as u8]);
-            settle(out, host, f, tick);
+            let left = settle(out, host, f, tick);
             if stops_from(out, start + Command::Parallel.width()) {
                 out.truncate(start);
-                settle(out, host, g, tick);
-                return;
+                return settle(out, host, g, tick);
             }
             let middle = out.len();
-            settle(out, host, g, tick);
+            let right = settle(out, host, g, tick);
             close_parallel(out, start, middle);
+            left.and(right)
         }
         Head::Sequential(x, f, g) => {
             add(out, &[Command::Sequential as u8, x]);
-            settle(out, host, f, tick);
+            let left = settle(out, host, f, tick);
             if stops_from(out, start + Command::Sequential.width()) {
                 out.truncate(start);
                 add(out, &[Command::Stop as u8]);
-                return;
+                return Variables::none();
             }
-            settle(out, host, g, tick);
+            let right = settle(out, host, g, tick);
+            left.and(right.without(x))
         }
         Head::Pruning(x, f, g) => {
             add(out, &[Command::Pruning as u8, x]);
-            settle(out, host, f, tick);
+            let left = settle(out, host, f, tick);
             let middle = out.len();
-            settle(out, host, g, tick);
-            close_pruning(out, x, start, middle);
+            let right = settle(out, host, g, tick);
+            close_pruning(out, x, left, start, middle);
+            left.without(x).and(right)
         }
         Head::Pending(call) => {
             if within_reach(host, call, tick) {
-                put(out, form, None);
-            } else {
-                add(out, &[Command::Stop as u8]);
+                add(out, &call.to_bytes());
+                return Variables::none();
             }
+            add(out, &[Command::Stop as u8]);
+            Variables::none()
         }
     }
 }

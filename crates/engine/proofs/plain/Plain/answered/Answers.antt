@@ -1,4 +1,4 @@
-use Rattle.std.proofs.Common.{◌<◌, [], refl, subst}
+use Rattle.std.proofs.Common.{◌<◌, [], subst}
 use Rattle.walks.specs.Contents.{content}
 use Rattle.runs.specs.declared.call.Call.TheVariants.{Answer}
 use Rattle.events.specs.Acts.{act_of}
@@ -39,11 +39,11 @@ invariant_of-self c =
     let a = act_of c.args.reply.now.step.act in
     let bs' = content c.args.form.now in
     let it =
-    given p.file p.clock c.args.form.now p.issued c.«record».new.events c.count_withdrawn.new.self
+    given p.file p.clock c.hold.new.held p.issued c.«record».new.events c.count_withdrawn.new.self
     (answered_state x.meaning x.laws p c.args.call.ticket x.value a gone x.left bs' x.may x.names.call x.names.stands x.names.has_ticket c.count.new.self (c.count.ensures x.names.call x.names.has_site)
-    c.args.form.now c.«record».new.events c.count_withdrawn.new.self c.count_withdrawn.ensures c.«record».ensures refl)
+    c.hold.new.held c.«record».new.events c.count_withdrawn.new.self c.count_withdrawn.ensures c.«record».ensures c.hold.ensures)
     (kept_after x.meaning x.laws p (Answer c.args.call.ticket x.value) a gone x.left bs' x.may)
-    p.whole_file (moved_form x.meaning x.laws p (Answer c.args.call.ticket x.value) a gone x.left bs' x.may c.args.form.now refl) in
+    p.whole_file (moved_form x.meaning x.laws p (Answer c.args.call.ticket x.value) a gone x.left bs' x.may c.hold.new.held c.hold.ensures) in
     record { whole_file = it.0; whole_form = it.1; formals = it.2; bodies = it.3; fits = it.4 }
 
 pub returns : goal.returns
@@ -53,4 +53,4 @@ returns c =
     let gone = withdrawn_with c.args.call.ticket (content p.form) c.args.reply.now.pruned in
     λ m laws v bs may.
     answered_state m laws p c.args.call.ticket v (act_of c.args.reply.now.step.act) gone bs (content c.args.form.now) may x.names.call x.names.stands x.names.has_ticket c.count.new.self (c.count.ensures x.names.call x.names.has_site)
-    c.args.form.now c.«record».new.events c.count_withdrawn.new.self c.count_withdrawn.ensures c.«record».ensures refl
+    c.hold.new.held c.«record».new.events c.count_withdrawn.new.self c.count_withdrawn.ensures c.«record».ensures c.hold.ensures

@@ -39,10 +39,10 @@ unwrap-requires g c =
     let place = c.args.standing.place in
     let there = c.requires.1 in
     let is = found_call p c.requires.0 x.ticket place there.place x there.call in
-    let standing = c.standing.result in
+    let standing = c.measured.result in
     there_is _ c.make_reply.result (c.make_reply.ensures standing.is_form) (always_answered p c.requires.0 x.ticket place there.place c.args.value x.site x.value x.clock x.ticket is m
     (subst (λ t. can_reply (handle m x.site x.value) x.clock t c.args.value ≡ true) c.from.ensures (sym c.if-not-can_reply.ensures))
-    standing.form.bytes.now c.standing.ensures)
+    standing.form.bytes.now c.measured.ensures)
 
 pub returns : goal.returns
 returns g c =
@@ -53,7 +53,7 @@ returns g c =
     let there = c.requires.1 in
     let r = c.unwrap.result in
     let is = found_call p c.requires.0 x.ticket place there.place x there.call in
-    let standing = c.standing.result in
+    let standing = c.measured.result in
     reply_step p c.requires.0 x.ticket place there.place c.args.value x.site x.value x.clock x.ticket is m
     (subst (λ t. can_reply (handle m x.site x.value) x.clock t c.args.value ≡ true) c.from.ensures (sym c.if-not-can_reply.ensures))
-    standing.form.bytes.now c.standing.ensures (act_of r.step.act) r.pruned (content r.step.form) (omega (arith, c.if-is_full.ensures, event_count c.args.self.now.events)) (MatchOption-at_some _ _ r c.unwrap.ensures (c.make_reply.ensures standing.is_form))
+    standing.form.bytes.now c.measured.ensures (act_of r.step.act) r.pruned (content r.step.form.now) (omega (arith, c.if-is_full.ensures, event_count c.args.self.now.events)) (MatchOption-at_some _ _ r c.unwrap.ensures (c.make_reply.ensures standing.is_form))

@@ -1,4 +1,4 @@
-use Rattle.std.proofs.Common.{◌+◌, refl}
+use Rattle.std.proofs.Common.{◌+◌}
 use Rattle.walks.specs.Contents.{content}
 use Rattle.engine.proofs.Given.{given}
 use Rattle.engine.proofs.Moved.{room_waited, kept_waited, waited_form, waited_state}
@@ -17,13 +17,13 @@ invariant_of-self g c =
     let p = c.args.self.now in
     let bs' = content c.args.form.now in
     let it =
-    given p.file (p.clock + c.args.ticks) c.args.form.now p.issued p.events c.count_lapsed.new.self
-    (waited_state m laws p c.args.ticks bs' c.requires c.args.form.now c.count_lapsed.new.self (rw c.new-left.ensures at c.count_lapsed.ensures) refl)
+    given p.file (p.clock + c.args.ticks) c.hold.new.held p.issued p.events c.count_lapsed.new.self
+    (waited_state m laws p c.args.ticks bs' c.requires c.hold.new.held c.count_lapsed.new.self (rw c.new-left.ensures at c.count_lapsed.ensures) c.hold.ensures)
     (kept_waited m laws p c.args.ticks bs' c.requires)
-    p.whole_file (waited_form m laws p c.args.ticks bs' c.requires c.args.form.now refl) in
+    p.whole_file (waited_form m laws p c.args.ticks bs' c.requires c.hold.new.held c.hold.ensures) in
     record { whole_file = it.0; whole_form = it.1; formals = it.2; bodies = it.3; fits = it.4 }
 
 pub returns : goal.returns
 returns g c =
     let host = c.args.host.now in
-    waited_state (g.H.Host.meaning host) (g.H.Host.laws host) c.args.self.now c.args.ticks (content c.args.form.now) c.requires c.args.form.now c.count_lapsed.new.self (rw c.new-left.ensures at c.count_lapsed.ensures) refl
+    waited_state (g.H.Host.meaning host) (g.H.Host.laws host) c.args.self.now c.args.ticks (content c.args.form.now) c.requires c.hold.new.held c.count_lapsed.new.self (rw c.new-left.ensures at c.count_lapsed.ensures) c.hold.ensures

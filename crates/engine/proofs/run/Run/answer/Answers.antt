@@ -46,8 +46,8 @@ reply_step-requires g c =
     let standing = c.in-Some.standing in
     (ap is_some c.in_ok-loaded_file.ensures, subst (λ k. StandsThere (state_of p) k standing) (sym c.in-Some.ensures.0) c.in-Some.ensures.1)
 
-pub new-requires : goal.new-requires
-new-requires g c = c.in_ok-reply.ensures.move.form
+pub measured-form-requires : goal.measured-form-requires
+measured-form-requires g c = c.in_ok-reply.ensures.move.form
 
 pub returns-in_err-check_size : goal.returns-in_err-check_size
 returns-in_err-check_size g c =
@@ -60,7 +60,7 @@ returns-in_err-check_size g c =
     let e = err_from_is_err_and r c.from_residual-in_err-check_size.ensures.1 in
     let large = c.in_err-check_size.ensures in
     let gone = withdrawn_with k (content p.form) reply.pruned in
-    let refuses = outgrown m p (Answer k c.args.value) (act_of reply.step.act) gone (content reply.step.form) (content c.simplify-form.result) c.in_ok-reply.ensures.move (rw c.new.ensures at c.simplify-form.ensures) _ large.0 large.1 in
+    let refuses = outgrown m p (Answer k c.args.value) (act_of reply.step.act) gone (content reply.step.form.now) (content c.simplify.new.out) c.in_ok-reply.ensures.move (rw c.measured-form.ensures at c.simplify.ensures) _ large.0 large.1 in
     let o = refused_outcome m p call r e.0 _ e.1 e.2 (refused_of_ticket c.in-Some.ensures.0 refuses) in
     record { outcome = o; made = every_transition m p call r _ o; refused = refused_keeps m p call r e.0 _ e.1 e.2; host = refl }
 
@@ -77,8 +77,8 @@ answered-requires g c =
       meaning = m;
       laws = g.H.Host.laws host;
       value = c.args.value;
-      left = content reply.step.form;
-      may = may_be_made m p (Answer k c.args.value) (act_of reply.step.act) gone (content reply.step.form) (content c.simplify-form.result) step.move (rw c.new.ensures at c.simplify-form.ensures) c.in_ok-check_size.ensures;
+      left = content reply.step.form.now;
+      may = may_be_made m p (Answer k c.args.value) (act_of reply.step.act) gone (content reply.step.form.now) (content c.simplify.new.out) step.move (rw c.measured-form.ensures at c.simplify.ensures) c.in_ok-check_size.ensures;
       names = step.names;
     }
 
@@ -90,9 +90,9 @@ returns g c =
     let p = c.args.self.now.plain in
     let call = Answer c.in-Some.standing.call.ticket c.args.value in
     let reply = c.in_ok-reply.reply in
-    let bs = content reply.step.form in
-    let bs' = content c.simplify-form.result in
+    let bs = content reply.step.form.now in
+    let bs' = content c.simplify.new.out in
     let gone = withdrawn_with c.in-Some.standing.call.ticket (content p.form) reply.pruned in
-    let may = may_be_made m p call (act_of reply.step.act) gone bs bs' c.in_ok-reply.ensures.move (rw c.new.ensures at c.simplify-form.ensures) c.in_ok-check_size.ensures in
+    let may = may_be_made m p call (act_of reply.step.act) gone bs bs' c.in_ok-reply.ensures.move (rw c.measured-form.ensures at c.simplify.ensures) c.in_ok-check_size.ensures in
     let o = rw c.in-Some.ensures.0 at (subst (Outcome m (state_of p) call (Ok tt)) (sym (c.answered.ensures m laws c.args.value bs may)) (outcome m laws p call (act_of reply.step.act) gone bs bs' may)) in
     record { outcome = o; made = every_transition m p (Answer c.args.ticket c.args.value) (Ok tt) _ o; refused = tt; host = refl }

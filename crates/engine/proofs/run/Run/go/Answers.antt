@@ -18,8 +18,8 @@ returns-in_err-step g c =
     let o = refused_outcome m p (Go c.args.n) r e.0 _ e.1 e.2 (c.in_err-step.ensures m) in
     record { outcome = o; made = every_transition m p (Go c.args.n) r _ o; refused = refused_keeps m p (Go c.args.n) r e.0 _ e.1 e.2; host = refl }
 
-pub new-requires : goal.new-requires
-new-requires g c = (c.in_ok-step.ensures (g.H.Host.meaning c.args.self.now.host)).form
+pub measured-form-requires : goal.measured-form-requires
+measured-form-requires g c = (c.in_ok-step.ensures (g.H.Host.meaning c.args.self.now.host)).form
 
 pub returns-in_err-check_size : goal.returns-in_err-check_size
 returns-in_err-check_size g c =
@@ -29,7 +29,7 @@ returns-in_err-check_size g c =
     let r = c.from_residual-in_err-check_size.result in
     let e = err_from_is_err_and r c.from_residual-in_err-check_size.ensures.1 in
     let large = c.in_err-check_size.ensures in
-    let refuses = outgrown m p (Go c.args.n) (act_of step.act) [] (content step.form) (content c.settle-form.result) (c.in_ok-step.ensures m) (rw c.new.ensures at c.settle-form.ensures) _ large.0 large.1 in
+    let refuses = outgrown m p (Go c.args.n) (act_of step.act) [] (content step.form.now) (content c.settle.new.out) (c.in_ok-step.ensures m) (rw c.measured-form.ensures at c.settle.ensures) _ large.0 large.1 in
     let o = refused_outcome m p (Go c.args.n) r e.0 _ e.1 e.2 refuses in
     record { outcome = o; made = every_transition m p (Go c.args.n) r _ o; refused = refused_keeps m p (Go c.args.n) r e.0 _ e.1 e.2; host = refl }
 
@@ -37,7 +37,7 @@ pub gone-requires : goal.gone-requires
 gone-requires g c =
     let m = g.H.Host.meaning c.args.self.now.host in
     let step = c.in_ok-step.step in
-    (c.args.n, may_be_made m c.args.self.now.plain (Go c.args.n) (act_of step.act) [] (content step.form) (content c.settle-form.result) (c.in_ok-step.ensures m) (rw c.new.ensures at c.settle-form.ensures) c.in_ok-check_size.ensures)
+    (c.args.n, may_be_made m c.args.self.now.plain (Go c.args.n) (act_of step.act) [] (content step.form.now) (content c.settle.new.out) (c.in_ok-step.ensures m) (rw c.measured-form.ensures at c.settle.ensures) c.in_ok-check_size.ensures)
 
 pub returns : goal.returns
 returns g c =
@@ -45,8 +45,8 @@ returns g c =
     let m = g.H.Host.meaning host in
     let p = c.args.self.now.plain in
     let step = c.in_ok-step.step in
-    let bs = content step.form in
-    let bs' = content c.settle-form.result in
-    let may = may_be_made m p (Go c.args.n) (act_of step.act) [] bs bs' (c.in_ok-step.ensures m) (rw c.new.ensures at c.settle-form.ensures) c.in_ok-check_size.ensures in
+    let bs = content step.form.now in
+    let bs' = content c.settle.new.out in
+    let may = may_be_made m p (Go c.args.n) (act_of step.act) [] bs bs' (c.in_ok-step.ensures m) (rw c.measured-form.ensures at c.settle.ensures) c.in_ok-check_size.ensures in
     let o = subst (Outcome m (state_of p) (Go c.args.n) (Ok tt)) (sym c.gone.ensures) (outcome m (g.H.Host.laws host) p (Go c.args.n) (act_of step.act) [] bs bs' may) in
     record { outcome = o; made = every_transition m p (Go c.args.n) (Ok tt) _ o; refused = tt; host = refl }

@@ -18,13 +18,13 @@ pub returns-in-SiteCall-clause-expression : goal.returns-in-SiteCall-clause-expr
 returns-in-SiteCall-clause-expression c =
     let bs = c.args.self.bytes.now in
     let command = c.in-Some.ensures in
-    ap (site_call (byte_at bs 1)) c.parameter_at.ensures ∙ headed_alone bs command.1 1 (sym command.0 ∙ ap byte_of c.in-SiteCall.is) _ refl
+    ap (site_call (byte_at bs 1)) c.read.ensures ∙ headed_alone bs command.1 1 (sym command.0 ∙ ap byte_of c.in-SiteCall.is) _ refl
 
 pub returns-in-DefinitionCall-clause-expression : goal.returns-in-DefinitionCall-clause-expression
 returns-in-DefinitionCall-clause-expression c =
     let bs = c.args.self.bytes.now in
     let command = c.in-Some.ensures in
-    ap (definition_call (byte_at bs 1)) c.parameter_at-in-DefinitionCall.ensures ∙ headed_alone bs command.1 2 (sym command.0 ∙ ap byte_of c.in-DefinitionCall.is) _ refl
+    ap (definition_call (byte_at bs 1)) c.read-in-DefinitionCall.ensures ∙ headed_alone bs command.1 2 (sym command.0 ∙ ap byte_of c.in-DefinitionCall.is) _ refl
 
 pub returns-in-Parallel-clause-expression : goal.returns-in-Parallel-clause-expression
 returns-in-Parallel-clause-expression c =
@@ -75,4 +75,4 @@ pub returns-in-Pending-clause-expression : goal.returns-in-Pending-clause-expres
 returns-in-Pending-clause-expression c =
     let bs = c.args.self.bytes.now in
     let command = c.in-Some.ensures in
-    headed_pending bs command.1 6 (sym command.0 ∙ ap byte_of c.in-Pending.is) refl c.unwrap.result (MatchOption-at_some _ _ c.unwrap.result c.unwrap.ensures c.read.ensures).1
+    headed_pending bs command.1 6 (sym command.0 ∙ ap byte_of c.in-Pending.is) refl c.unwrap.result (MatchOption-at_some _ _ c.unwrap.result c.unwrap.ensures c.read-in-Pending.ensures).1
