@@ -14,6 +14,12 @@ const OVERLAP: [u8; 47] = [
     0x11, 0, 0, 0, 0, 255, 255, 255, 255, 0, 0, 255, 255, 0x10, 27, 0, 7, 0, 7, 1,
 ];
 
+// Site 0 has two windows for every value: 3 to 9 and the value 7, 10 to 20 and the values 1 to 4.
+const TWO_WINDOWS: [u8; 33] = [
+    0x10, 0, 0, 0, 255, 255, 0, 0x11, 0, 0, 0, 3, 0, 0, 0, 9, 0, 7, 0, 7, 0x11, 0, 0, 0, 10, 0, 0,
+    0, 20, 0, 1, 0, 4,
+];
+
 // A sheet that is refused: its row says nothing.
 const REFUSED: [u8; 7] = [0x10, 1, 0, 0, 0, 9, 0];
 
@@ -123,6 +129,7 @@ fn reports(rt: &HostRuntime) -> io::Result<()> {
     for (site, value) in [(3, 25), (5, 3), (5, 9), (5, 15), (5, 30), (9, 1)] {
         report(rt, &OVERLAP, site, value)?;
     }
+    report(rt, &TWO_WINDOWS, 4, 0)?;
     report(rt, &REFUSED, 5, 0)
 }
 

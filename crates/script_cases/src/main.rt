@@ -65,7 +65,6 @@ const LINES: [&str; 53] = [
     "é 1",
 ];
 
-// Shows the lines, the calls written as lines, the scales and the pictures.
 // Scripts: none of a line, with and without an end of the last line, with blank lines and comments, and with bad lines.
 const SCRIPTS: [&str; 9] = [
     "",
@@ -79,6 +78,7 @@ const SCRIPTS: [&str; 9] = [
     "go 0\nwait 1\n\nwait 4294967296",
 ];
 
+// Shows the lines, the calls written as lines, the scales and the pictures.
 fn main(rt: HostRuntime) -> anyhow::Result<()> {
     for line in LINES {
         show_line(&rt, line)?;
@@ -157,7 +157,18 @@ fn show_pictures(rt: &HostRuntime) -> anyhow::Result<()> {
     show_picture(rt, &lanes, &publications, 41)?;
     show_picture(rt, &lanes, &[], 118)?;
     show_picture(rt, &[], &publications, 41)?;
+    show_counts(rt)?;
     show_long(rt)
+}
+
+// Columns with one publication, with nine and with ten, up to a last column that has its tick above it.
+fn show_counts(rt: &HostRuntime) -> anyhow::Result<()> {
+    let mut publications = [publication(40, 3); 20];
+    publications[0] = publication(0, 1);
+    for nine in &mut publications[1..10] {
+        *nine = publication(20, 2);
+    }
+    show_picture(rt, &[], &publications, 40)
 }
 
 // A run over the whole range of the clock, and with more than nine publications in one column.

@@ -151,12 +151,30 @@ fn reports(rt: &HostRuntime) -> io::Result<()> {
         &window(6, 6, 9, 9),
     ]
     .concat(heap)?;
+    let silent = row(27, 0, 9, 1);
+    let second_row = [silent, row(28, 0, 0, 1)].concat(heap)?;
+    let late = [silent.as_slice(), &window(NO_END, NO_END, 0, 0)].concat(heap)?;
+    let latest = [silent.as_slice(), &window(6, 5, 0, 0)].concat(heap)?;
+    let highest = [silent.as_slice(), &window(5, 5, 1, 0)].concat(heap)?;
+    let long = [0].repeat(heap, 4097)?;
     for bytes in [
         good.as_slice(),
+        &silent,
         &row(28, 0, 0, 1),
         &row(1, 0, 0, 2),
         &[0x10, 1, 0],
         &[],
+        second_row.as_slice(),
+        &[0x12],
+        &row(1, 5, 4, 1),
+        late.as_slice(),
+        latest.as_slice(),
+        highest.as_slice(),
+        &window(0, 0, 0, 0),
+        &row(1, 0, 0, 0),
+        many(heap, 65, 1)?.as_slice(),
+        many(heap, 1, 5)?.as_slice(),
+        long.as_slice(),
     ] {
         let report = sheet_report(heap, bytes)?;
         print!(rt; "----\n{report}")?;
