@@ -9,6 +9,7 @@ use forms::exact::expression_form;
 use hosts::host::Host;
 use hosts::local::Local;
 use hosts::pair::Pair;
+use reports::file::{file_report, file_report_with_sheet};
 use std::alloc::{AllocError, Global};
 use std::{io, iter};
 use verdicts::reason::Reason;
@@ -422,6 +423,61 @@ fn forms(rt: &HostRuntime) -> io::Result<()> {
     Ok(())
 }
 
+// A sheet whose one row is of the controller's site 4, and one that is refused.
+const SHEET: [u8; 7] = [0x10, 0, 0, 0, 255, 255, 1];
+
+const REFUSED_SHEET: [u8; 2] = [0x10, 28];
+
+// Whole reports, as the program prints them: of a file with every command, judged with each sheet.
+fn reports(rt: &HostRuntime) -> io::Result<()> {
+    let heap = rt.alloc();
+    let every = [
+        [1, 5, 0, 5].as_slice(),
+        &variable(5),
+        &[5, 7, 3, 1, 4, 0, 0, 9],
+        &STOP,
+        &[4, 2, 2, 0, 0, 1, 0],
+        &variable(2),
+    ]
+    .concat(heap)?;
+    let report = file_report_with_sheet(heap, every.as_slice(), &SHEET)?;
+    print!(rt; "----\n{report}")?;
+    let report = file_report_with_sheet(heap, every.as_slice(), &REFUSED_SHEET)?;
+    print!(rt; "----\n{report}")
+}
+
+// The report on a file with each fault.
+fn refused_reports(rt: &HostRuntime) -> io::Result<()> {
+    let heap = rt.alloc();
+    let long = STOP.repeat(heap, 4097)?;
+    let refused: [&[u8]; 9] = [
+        &[0, 1, 0],
+        &[0, 3, 0, 6],
+        &[17],
+        &[0, 4, 32],
+        &[0, 2, 0, 0, 0, 0],
+        &[0, 1, 4, 0, 0, 0],
+        &[0, 1, 0, 1, 0, 3],
+        long.as_slice(),
+        &[0, 0, 9],
+    ];
+    for bytes in refused {
+        let report = file_report(heap, &Local, bytes)?;
+        print!(rt; "----\n{report}")?;
+    }
+    Ok(())
+}
+
+// How long the report on a deep form is. From some depth on its lines are indented no further.
+fn deep_report(rt: &HostRuntime) -> io::Result<()> {
+    let heap = rt.alloc();
+    let parallels = [3, 0].repeat(heap, 50)?;
+    let deep = [[0].as_slice(), parallels.as_slice(), &STOP].concat(heap)?;
+    let report = file_report(heap, &Local, deep.as_slice())?;
+    let length = report.text.len();
+    println!(rt; "----\n50 parallels, to the right: a report of {length} bytes")
+}
+
 fn main(rt: HostRuntime) -> io::Result<()> {
     counts(&rt)?;
     commands(&rt)?;
@@ -437,5 +493,8 @@ fn main(rt: HostRuntime) -> io::Result<()> {
     damaged(&rt)?;
     random(&rt)?;
     contents(&rt)?;
-    forms(&rt)
+    forms(&rt)?;
+    reports(&rt)?;
+    refused_reports(&rt)?;
+    deep_report(&rt)
 }
