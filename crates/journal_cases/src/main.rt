@@ -48,7 +48,13 @@ fn show(
 
 fn main(rt: HostRuntime) -> anyhow::Result<()> {
     show(&rt, "no line", &LET_5, &NO_ROWS, "")?;
-    show(&rt, "comments and empty lines alone", &LET_5, &NO_ROWS, "# nothing\n\n   \n")?;
+    show(
+        &rt,
+        "comments and empty lines alone",
+        &LET_5,
+        &NO_ROWS,
+        "# nothing\n\n   \n",
+    )?;
     show(
         &rt,
         "a reply outside its window, and one within",
@@ -59,11 +65,41 @@ fn main(rt: HostRuntime) -> anyhow::Result<()> {
     show(&rt, "a sheet that is refused", &LET_5, &CUT, "go 0\n")?;
     show(&rt, "a file that is refused", &FREE, &ROWS, "go 0\n")?;
     show(&rt, "both refused", &FREE, &CUT, "oops\n")?;
-    show(&rt, "a file that is refused and a line at fault", &LET_5[..5], &NO_ROWS, "oops\n")?;
-    show(&rt, "the first line at fault", &LET_5, &NO_ROWS, "start\ngo 0\n")?;
-    show(&rt, "the third line at fault", &LET_5, &NO_ROWS, "go 0\n# now\nanswer 1\nanswer 1 5\n")?;
-    show(&rt, "two lines at fault", &LET_5, &NO_ROWS, "go 0\ngo x\nwait y\n")?;
-    show(&rt, "standing tickets", &BOTH, &ROWS, "go 0\nwait 1\ngo 0\nwait 1\n")?;
+    show(
+        &rt,
+        "a file that is refused and a line at fault",
+        &LET_5[..5],
+        &NO_ROWS,
+        "oops\n",
+    )?;
+    show(
+        &rt,
+        "the first line at fault",
+        &LET_5,
+        &NO_ROWS,
+        "start\ngo 0\n",
+    )?;
+    show(
+        &rt,
+        "the third line at fault",
+        &LET_5,
+        &NO_ROWS,
+        "go 0\n# now\nanswer 1\nanswer 1 5\n",
+    )?;
+    show(
+        &rt,
+        "two lines at fault",
+        &LET_5,
+        &NO_ROWS,
+        "go 0\ngo x\nwait y\n",
+    )?;
+    show(
+        &rt,
+        "standing tickets",
+        &BOTH,
+        &ROWS,
+        "go 0\nwait 1\ngo 0\nwait 1\n",
+    )?;
     show(
         &rt,
         "one answered, one withdrawn",
@@ -71,7 +107,13 @@ fn main(rt: HostRuntime) -> anyhow::Result<()> {
         &ROWS,
         "go 0\ngo 0\nwait 2\nanswer 1 2\nanswer 2 9\ngo 0\nanswer 3 2\n",
     )?;
-    show(&rt, "a lapse", &SECOND, &ROWS, "go 0\nwait 3\nwait 1\nanswer 1 0\n")?;
+    show(
+        &rt,
+        "a lapse",
+        &SECOND,
+        &ROWS,
+        "go 0\nwait 3\nwait 1\nanswer 1 0\n",
+    )?;
     show(
         &rt,
         "a wait over due calls, and over a reply",
@@ -79,7 +121,25 @@ fn main(rt: HostRuntime) -> anyhow::Result<()> {
         &ROWS,
         "wait 1\ngo 0\ngo 0\nwait 5\nwait 4294967295\n",
     )?;
-    show(&rt, "no due call", &LET_5, &NO_ROWS, "go 1\ngo 4294967295\ngo 0\ngo 0\n")?;
-    show(&rt, "inner steps alone", &ENDLESS, &NO_ROWS, "go 0\ngo 0\ngo 0\n")?;
-    show(&rt, "the clock's end", &LET_5, &NO_ROWS, "go 0\nanswer 1 5\nwait 4294967294\nwait 1\n")
+    show(
+        &rt,
+        "no due call",
+        &LET_5,
+        &NO_ROWS,
+        "go 1\ngo 4294967295\ngo 0\ngo 0\n",
+    )?;
+    show(
+        &rt,
+        "inner steps alone",
+        &ENDLESS,
+        &NO_ROWS,
+        "go 0\ngo 0\ngo 0\n",
+    )?;
+    show(
+        &rt,
+        "the clock's end",
+        &LET_5,
+        &NO_ROWS,
+        "go 0\nanswer 1 5\nwait 4294967294\nwait 1\n",
+    )
 }

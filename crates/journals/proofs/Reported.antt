@@ -1,5 +1,5 @@
 -- What was played, as the journal of a report. Assumes nothing.
-use Rattle.std.proofs.Common.{◌≡◌, ℕ, List, false, is_none, Ok, Err, Option, Result, string_bytes}
+use Rattle.std.proofs.Common.{◌≡◌, ℕ, List, ◌++◌, codes, false, is_none, Ok, Err, Option, Result, string_bytes}
 use Rattle.std.proofs.lemmas.Result.{MatchResult-at_ok, MatchResult-at_err, IfOk-at_ok}
 use Rattle.std.specs.Str.Lines.{lines}
 use Rattle.orc.specs.Meaning.{Meaning}
@@ -13,12 +13,12 @@ use Rattle.runs.specs.Outcomes.{Response}
 use Rattle.scripts.specs.declared.script.BadLine.{BadLine}
 use Rattle.scripts.specs.Scripts.{Reads}
 use Rattle.journals.specs.Lines.{journal_text}
-use Rattle.journals.specs.Journals.{Journal, is_played, is_refused}
+use Rattle.journals.specs.Journals.{Journal, Pictured, is_played, is_refused}
 
 module _ (m : Meaning) (bs script : List ℕ) (calls : List Call) where
   -- a file that is accepted
-  pub told_is_journal : (bad : Option BadLine) (judged : Result (Unit {0}) Fault) (responses : List Response) (s : State) (t : Report) → judged ≡ Ok tt → Plays m bs calls judged responses s → Reads (lines script) calls bad → Begins (journal_text calls bad responses s) (string_bytes t.text) → t.accepted ≡ is_none bad → Journal m bs script t
-  told_is_journal bad judged responses s t is plays reads begins accepted = is_played (record {
+  pub told_is_journal : (bad : Option BadLine) (judged : Result (Unit {0}) Fault) (responses : List Response) (s : State) (t : Report) → judged ≡ Ok tt → Plays m bs calls judged responses s → Reads (lines script) calls bad → (p : List ℕ) → string_bytes t.text ≡ journal_text calls bad responses s ++ (codes "\n" ++ p) → t.accepted ≡ is_none bad → Pictured s.clock p → Journal m bs script t
+  told_is_journal bad judged responses s t is plays reads p whole accepted pictured = is_played (record {
     calls = calls;
     bad = bad;
     responses = responses;
@@ -29,7 +29,9 @@ module _ (m : Meaning) (bs script : List ℕ) (calls : List Call) where
       history = MatchResult-at_ok _ _ tt is plays.history;
       trace = IfOk-at_ok _ is plays.trace;
     };
-    begins = begins;
+    picture = p;
+    whole = whole;
+    pictured = pictured;
     accepted = accepted;
   })
 

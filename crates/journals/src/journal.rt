@@ -1,5 +1,5 @@
 // The report of a script that is played.
-ghost use Rattle.std.specs.Prelude.{◌≡◌, false, is_none, IfOk, IfSome, Some, string_bytes, MatchResult, map, zip};
+ghost use Rattle.std.specs.Prelude.{◌≡◌, false, is_none, IfOk, IfSome, Some, string_bytes, MatchResult, map, zip, ◌++◌, codes};
 ghost use Rattle.sheets.specs.Format.{Outcome as SheetResult, SheetOutcome};
 ghost use Rattle.reports.specs.Replies.{controller};
 ghost use Rattle.reports.specs.Verdicts.{first_line, Begins};
@@ -52,7 +52,8 @@ fn journal<H: Host + Copy>(
     let played = play(heap, host, file, script.calls.as_slice())?;
     match played.judged {
         Ok(()) => {
-            let picture = drawn(heap, host, file, script.calls.as_slice())?;
+            let clock = played.run.clock();
+            let picture = drawn(heap, host, file, script.calls.as_slice(), clock)?;
             told(heap, &script, &played, picture.as_str())
         }
         Err(fault) => file_refusal_report(heap, file, fault),
@@ -66,7 +67,7 @@ fn told<H>(
     played: &Played<H>,
     picture: &str,
 ) -> Result<Report, AllocError>
-    ensures { IfOk result (λ t. Begins (journal_text script.now.calls.items script.now.bad played.now.responses.items (state_of played.now.run.plain)) (string_bytes t.text) × (t.accepted ≡ is_none script.now.bad)) }
+    ensures { IfOk result (λ t. (string_bytes t.text ≡ journal_text script.now.calls.items script.now.bad played.now.responses.items (state_of played.now.run.plain) ++ (codes "\n" ++ picture.now)) × (t.accepted ≡ is_none script.now.bad)) }
 {
     let lines = lines(heap, script.calls.as_slice(), played.responses.as_slice())?;
     let calls = CallLines(lines.as_slice());

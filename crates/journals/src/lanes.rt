@@ -1,4 +1,7 @@
 // The calls of sites over a run's life, as the lanes of a picture.
+ghost use Rattle.std.specs.Prelude.{IfOk, string_bytes};
+ghost use Rattle.journals.specs.Journals.{Pictured};
+
 use engine::run::Run;
 use events::act::Act;
 use events::event::Event;
@@ -10,13 +13,16 @@ use places::tickets::pending_calls;
 use runs::call::Call;
 use std::alloc::{AllocError, Global};
 
-// A picture of the run that some calls make of a file that is accepted: a lane for each ticket, and the publications.
+// A picture, up to a clock, of the run that some calls make of a file that is accepted: a lane for each ticket, and the publications.
 pub(crate) fn drawn<H: Host + Copy>(
     heap: Global,
     host: H,
     file: &[u8],
     calls: &[Call],
-) -> Result<String, AllocError> {
+    clock: u32,
+) -> Result<String, AllocError>
+    ensures { IfOk result (λ t. Pictured clock (string_bytes t)) }
+{
     let (mut run, _) = Run::begin(host, file);
     let mut lanes = Vec::new(heap);
     // Kept: a loop that pushes, here and below. Of what a closure changes nothing is known afterwards.
@@ -29,7 +35,7 @@ pub(crate) fn drawn<H: Host + Copy>(
         }
     }
     let publications = publications(heap, &run)?;
-    picture(heap, lanes.as_slice(), publications.as_slice(), run.clock())
+    picture(heap, lanes.as_slice(), publications.as_slice(), clock)
 }
 
 // A lane for the ticket that the newest event issued, if it is the call of a site. Tickets are numbered from 1.

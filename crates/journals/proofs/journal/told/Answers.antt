@@ -14,6 +14,6 @@ returns g c =
     let calls = call_lines (zip script.calls.items played.responses.items) in
     let pairs : map pair_of (vec_items c.in_ok-lines.lines) ≡ zip script.calls.items played.responses.items = search rules in
     let text : string_bytes c.in_ok-format.field-0 ≡ call_lines (map pair_of (vec_items c.in_ok-lines.lines)) ++ (bad ++ (s ++ rest)) = search rules in (
-      (rest, text ∙ ap (λ l. call_lines l ++ (bad ++ (s ++ rest))) pairs ∙ sym (append_assoc calls (bad ++ s) rest ∙ ap (λ l. calls ++ l) (append_assoc bad s rest))),
+      text ∙ ap (λ l. call_lines l ++ (bad ++ (s ++ rest))) pairs ∙ sym (append_assoc calls (bad ++ s) rest ∙ ap (λ l. calls ++ l) (append_assoc bad s rest)),
       search rules,
     )
