@@ -13,11 +13,12 @@ use Rattle.std.specs.Str.{bytes_eq}
 use Rattle.runs.specs.declared.call.Call.{Call}
 use Rattle.runs.specs.declared.call.Call.TheVariants.{Go, Answer, Wait}
 use Rattle.runs.specs.Calls.{line_of}
+use Rattle.runs.specs.Recording.{InRange}
 use Rattle.scripts.specs.declared.fault.LineFault.{LineFault}
 use Rattle.scripts.specs.declared.fault.LineFault.TheVariants.{UnknownWord}
 use Rattle.scripts.specs.Words.{words, opens, Dark}
 use Rattle.scripts.specs.Operands.{operands, followed_by, first_then, number_of}
-use Rattle.scripts.specs.Lines.{Outcome, Verb, go, answer, wait, Says, is_blank, is_comment, is_call, is_faulty, is_unknown, verb_of, spelling, numbers, limits, InRange}
+use Rattle.scripts.specs.Lines.{Outcome, Verb, go, answer, wait, Says, is_blank, is_comment, is_call, is_faulty, is_unknown, verb_of, spelling, numbers, limits}
 use Rattle.scripts.specs.Parsing.{reads}
 use Rattle.scripts.proofs.Splitting.{words_of_gap, words_of_front, words_from_front, words_of_nothing}
 
@@ -119,9 +120,9 @@ operands_back : (most n : ℕ) (ms : List ℕ) (ws : List (List ℕ)) → n < 2 
 operands_back most n ms ws small within = ap (λ (r : Result ℕ LineFault). first_then r (operands ms ws)) (number_back most n small within)
 
 numbers_back : (c : Call) → InRange c → operands (limits (verb_of c)) (map decimal (numbers c)) ≡ Ok (numbers c)
-numbers_back (Go n) fits = operands_back 4294967295 n [] [] (omega arith) fits
-numbers_back (Answer k v) fits = operands_back 4294967295 k (65535 ∷ []) (decimal v ∷ []) (omega arith) fits.0 ∙ ap (followed_by k) (operands_back 65535 v [] [] (omega arith) fits.1)
-numbers_back (Wait d) fits = operands_back 4294967295 d [] [] (omega arith) fits
+numbers_back (Go n) fits = operands_back 4294967295 n [] [] (omega arith) (omega arith)
+numbers_back (Answer k v) fits = operands_back 4294967295 k (65535 ∷ []) (decimal v ∷ []) (omega arith) (omega arith) ∙ ap (followed_by k) (operands_back 65535 v [] [] (omega arith) (omega arith))
+numbers_back (Wait d) fits = operands_back 4294967295 d [] [] (omega arith) (omega arith)
 
 pub back : (line : List ℕ) (c : Call) (r : Outcome) → InRange c → line ≡ line_of c → Says (words line) r → r ≡ Ok (Some c)
 back line c r fits written says =

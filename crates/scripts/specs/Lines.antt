@@ -1,5 +1,5 @@
 -- What a line of a script says. Assumes nothing.
-use Rattle.std.specs.Prelude.{◌≡◌, ℕ, ◌≤◌, List, [], ◌∷◌, Some, None, Ok, Err, codes, Option, Result, ◌≢◌, slice_index}
+use Rattle.std.specs.Prelude.{◌≡◌, ℕ, List, [], ◌∷◌, Some, None, Ok, Err, codes, Option, Result, ◌≢◌, slice_index}
 use Rattle.runs.specs.declared.call.Call.{Call}
 use Rattle.runs.specs.declared.call.Call.TheVariants.{Go, Answer, Wait}
 use Rattle.scripts.specs.declared.fault.LineFault.{LineFault}
@@ -32,12 +32,6 @@ abbrev pub limits : Verb → List ℕ
 limits go = 4294967295 ∷ []
 limits answer = 4294967295 ∷ 65535 ∷ []
 limits wait = 4294967295 ∷ []
-
--- every number of a call is within its limit, as it is in each call that a program holds
-abbrev pub InRange : Call → Type 0
-InRange (Go n) = n ≤ 4294967295
-InRange (Answer k v) = (k ≤ 4294967295) × (v ≤ 65535)
-InRange (Wait d) = d ≤ 4294967295
 
 -- a call, nothing, or a fault
 abbrev pub Outcome : Type 0

@@ -1,9 +1,10 @@
 // The lines of a script: what a line says, and the line that says a call.
 ghost use Rattle.std.specs.Prelude.{◌≡◌, IfOk, Some, Ok, string_bytes};
 ghost use Rattle.runs.specs.Calls.{line_of};
+ghost use Rattle.runs.specs.Recording.{InRange};
 ghost use Rattle.runs.specs.declared.call.Call.{Call as ACall};
 ghost use Rattle.scripts.specs.Words.{words, words_left};
-ghost use Rattle.scripts.specs.Lines.{Outcome, Says, InRange};
+ghost use Rattle.scripts.specs.Lines.{Outcome, Says};
 
 use crate::fault::LineFault;
 use crate::number::{last_number, next_number};
