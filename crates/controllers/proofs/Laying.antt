@@ -1,14 +1,11 @@
 -- A list that is laid over another, item by item. Assumes nothing.
-use Rattle.std.proofs.Common.{◌≡◌, ℕ, Bool, true, false, leb, ◌+◌, ◌<◌, ◌≤◌, List, [], ◌∷◌, ◌++◌, length, get_or, set, take, drop, map, zero, suc, Some, None, Option, MatchOption, refl, sym, ◌∙◌, ap, arith}
-use Rattle.std.proofs.lemmas.List.{take_more, take_all, drop_more, drop_all, length-take-le, append_assoc}
+use Rattle.std.proofs.Common.{◌≡◌, ℕ, ◌+◌, ◌<◌, ◌≤◌, List, [], ◌∷◌, ◌++◌, length, get_or, set, take, drop, map, zero, suc, Some, None, Option, MatchOption, refl, sym, ◌∙◌, ap, arith}
+use Rattle.std.proofs.lemmas.List.{take_more, take_all, drop_more, length-take-le, append_assoc}
 use Rattle.std.proofs.Math.Seq.{set-append_seam}
-use Rattle.std.proofs.lemmas.Bool.{leb-true, leb-false}
 use Rattle.std.proofs.lemmas.Option.{none-some}
 use Rattle.std.specs.Prelude.{unwrap_or}
 use Rattle.std.specs.List.{range_with_len}
-use Rattle.std.specs.Option.{option_map}
 use Rattle.orc.specs.Expressions.{entry}
-use Rattle.controllers.specs.Written.{laid}
 
 -- an item by its number
 entry_past : {X : Type 0} (xs : List X) (i : ℕ) → entry xs i ≡ None → length xs ≤ i
@@ -20,11 +17,6 @@ entry_there : {X : Type 0} (xs : List X) (i : ℕ) (x : X) → entry xs i ≡ So
 entry_there [] i x is = absurd (none-some x is)
 entry_there (y ∷ xs) zero x is = (omega arith, ap (λ o. unwrap_or o y) is)
 entry_there (y ∷ xs) (suc i) x is = let p = entry_there xs i x is in (omega arith, p.1)
-
-pub entry_map : {X Y : Type 0} (f : X → Y) (xs : List X) (i : ℕ) → option_map f (entry xs i) ≡ entry (map f xs) i
-entry_map f [] i = refl
-entry_map f (x ∷ xs) zero = refl
-entry_map f (x ∷ xs) (suc i) = entry_map f xs i
 
 pub entry_range : {X : Type 0} (f : ℕ → X) (a n i : ℕ) → i < n → entry (map f (range_with_len a n)) i ≡ Some (f (a + i))
 entry_range f a zero i within = absurd (omega arith)
@@ -55,17 +47,6 @@ laid_one xs ys i x there room is =
 -- there are no more
 pub laid_none : {X : Type 0} (xs ys : List X) (i : ℕ) → length xs ≤ i → laid_to i xs ys ≡ laid_to (i + 1) xs ys
 laid_none xs ys i past = ap (λ l. l ++ drop (length l) ys) (take_all i xs past ∙ sym (take_all (i + 1) xs (omega arith)))
-
--- all that there is room for
-pub laid_all : {X : Type 0} (xs ys : List X) (i : ℕ) → i ≡ length ys → laid_to i xs ys ≡ laid xs ys
-laid_all xs ys i is = end (leb (length xs) i) refl ∙ ap (λ n. take n xs ++ drop (length xs) ys) is
-  where
-    end : (b : Bool) → leb (length xs) i ≡ b → laid_to i xs ys ≡ take i xs ++ drop (length xs) ys
-    end true few = ap (λ l. take i xs ++ drop (length l) ys) (take_all i xs (leb-true (length xs) i few))
-    end false many =
-        let more : i < length xs = leb-false (length xs) i many in
-        let short : length (take i xs) ≡ i = length-take-le i xs (omega arith) in
-        ap (λ l. take i xs ++ l) (drop_all (length (take i xs)) ys (omega (arith, short, is)) ∙ sym (drop_all (length xs) ys (omega (arith, is))))
 
 -- the next item, if there is one
 pub laid_next : {X : Type 0} (xs ys zs zs' : List X) (i : ℕ) (r : Option X) → zs ≡ laid_to i xs ys → i < length ys → r ≡ entry xs i → MatchOption r (zs' ≡ zs) (λ x. zs' ≡ set zs i x) → zs' ≡ laid_to (i + 1) xs ys

@@ -1,6 +1,6 @@
 -- Orders that are made one after the other. Assumes nothing.
-use Rattle.std.proofs.Common.{◌≡◌, ℕ, suc, ◌+◌, ◌<◌, ◌≤◌, List, [], ◌∷◌, ◌++◌, length, get_or, set, take, drop, Some, None, Option, refl, sym, ◌∙◌, ap, subst, arith, MatchOption}
-use Rattle.std.proofs.lemmas.List.{take_more, take_all, drop_more, drop_all, length-take-le, append_assoc, append-nil}
+use Rattle.std.proofs.Common.{◌≡◌, ℕ, suc, ◌+◌, ◌<◌, List, [], ◌∷◌, ◌++◌, length, get_or, set, take, drop, Some, None, Option, refl, sym, ◌∙◌, ap, subst, arith, MatchOption}
+use Rattle.std.proofs.lemmas.List.{take_more, drop_more, length-take-le, append_assoc}
 use Rattle.std.proofs.Math.Seq.{set-append_seam, get_or-append_seam}
 use Rattle.orc.specs.Meaning.{Meaning}
 use Rattle.runs.specs.declared.call.Call.{Call}
@@ -98,10 +98,3 @@ module _ (m : Meaning) (s₀ s s' : State) (os os' : List Order) (i : ℕ) (o d 
 
   pub made_one : Makes m s o v s' → MadeTo m s₀ os (i + 1) (set os' i (noted o v)) s'
   made_one makes = by_case (call_of o) refl makes
-
--- all of them
-pub made_all : (m : Meaning) (s₀ s : State) (os os' : List Order) (i : ℕ) → length os ≤ i → MadeTo m s₀ os i os' s → (cs : List Call) × (rs : List Response) × Met os cs rs os' × History m s₀ cs rs s
-made_all m s₀ s os os' i past so_far =
-    let none : drop i os ≡ [] = drop_all i os past in
-    let is : os' ≡ so_far.done = so_far.rest ∙ (ap (λ l. so_far.done ++ l) none ∙ append-nil so_far.done) in
-    (so_far.calls, so_far.responses, subst (λ l. Met os so_far.calls so_far.responses l) (sym is) (subst (λ l. Met l so_far.calls so_far.responses so_far.done) (take_all i os past) so_far.met), so_far.history)
