@@ -57,9 +57,9 @@ int main(int count, char **arguments)
     teyumbi_judgement judgement = {{0, 0}, {0, 0}};
     teyumbi_state state = {0, 0, 0, 0};
     teyumbi_call calls[] = {
-        {TEYUMBI_GO, 0, 0, {0, 0}},       /* the lock is called, with ticket 1 */
+        {TEYUMBI_GO, 0, 0, {0, 0}},       /* the gong is struck, with ticket 1 */
         {TEYUMBI_WAIT, 3, 0, {0, 0}},     /* 30 ms pass */
-        {TEYUMBI_ANSWER, 1, 0, {0, 0}},   /* the lock replies */
+        {TEYUMBI_ANSWER, 1, 0, {0, 0}},   /* the gong replies */
         {TEYUMBI_GO, 0, 0, {0, 0}},       /* the definition of closing is begun */
         {TEYUMBI_GO, 0, 0, {0, 0}},       /* the drive closes the door, ticket 2 */
         {TEYUMBI_WAIT, 1, 0, {0, 0}},     /* too early: calls are due */
@@ -68,7 +68,7 @@ int main(int count, char **arguments)
         {TEYUMBI_WAIT, 250, 0, {0, 0}},   /* 2.5 s pass */
         {TEYUMBI_ANSWER, 2, 0, {0, 0}},   /* the door is closed: contact and timer are withdrawn */
         {TEYUMBI_ANSWER, 4, 0, {0, 0}},   /* so the timer's reply is turned away */
-        {TEYUMBI_GO, 0, 0, {0, 0}},       /* the end is told, ticket 5 */
+        {TEYUMBI_GO, 0, 0, {0, 0}},       /* the drive's reply is passed on, ticket 5 */
         {TEYUMBI_ANSWER, 5, 0, {0, 0}},
         {TEYUMBI_GO, 0, 0, {0, 0}},       /* it is published, ticket 6 */
         {TEYUMBI_ANSWER, 6, 0, {0, 0}},
