@@ -1,6 +1,7 @@
 // The program that a mechanic runs.
 #![tactic(auto)]
 
+use formats::fault::LONGEST;
 use hosts::local::Local;
 use journals::journal::run_report;
 use reports::file::{file_report, file_report_with_sheet};
@@ -49,9 +50,8 @@ The exit status is 0 if the file and the sheet are accepted and each line of a
 script can be read, else 1. A call that is refused is no failure.
 ";
 
-// How many bytes of an input are read. The longest that can be accepted has 4096, and the report on a longer one shows the
-// byte at 4096 and the 8 behind it. This is that and 503 to spare: 9 times 512.
-const MOST_READ: u64 = 4608;
+// How many bytes of an input are read at once.
+const PIECE: usize = 512;
 
 // What the words ask for. Files are named by their paths.
 #[derive(Clone, Copy)]
@@ -197,16 +197,24 @@ fn run<'a>(rt: &HostRuntime, words: &'a [String]) -> Result<ExitCode, Stop<'a>> 
     }
 }
 
-// The bytes of a file, as far as inputs are read.
+// The bytes of a file, or somewhat more than the longest input if there are more.
 fn read<'a>(rt: &HostRuntime, path: &'a str) -> Result<Vec<u8>, Stop<'a>> {
     read_bytes(rt, path).map_err(|error| Stop::Unread(path, error))
 }
 
+// Kept: a loop over pieces, and not `take` with `read_to_end`. It ends with the piece that makes an input too long, so that such an
+// input is refused at once, and a pipe is not waited for that has more to come, or stays open with nothing to come.
 fn read_bytes(rt: &HostRuntime, path: &str) -> io::Result<Vec<u8>> {
+    let mut file = File::open(rt, path)?;
     let mut bytes = Vec::new(rt.alloc());
-    File::open(rt, path)?
-        .take(MOST_READ)
-        .read_to_end(&mut bytes)?;
+    for _ in 0..u64::MAX {
+        let mut piece = [0u8; PIECE];
+        let count = file.read(&mut piece)?;
+        bytes.extend_from_slice(&piece[..count])?;
+        if count == 0 || bytes.len() > LONGEST {
+            break;
+        }
+    }
     Ok(bytes)
 }
 
