@@ -1,5 +1,5 @@
 // The report of a parameter file: a verdict, and then its definitions and goal as a tree, or what was expected and where.
-ghost use Rattle.std.specs.Prelude.{◌≡◌, false, IfOk, Err, string_bytes, MatchResult};
+ghost use Rattle.std.specs.Prelude.{◌≡◌, ◌<◌, false, length, IfOk, IfSome, Err, string_bytes, MatchResult};
 ghost use Rattle.sheets.specs.Format.{Outcome as SheetResult, SheetOutcome};
 ghost use Rattle.reports.specs.Files.{JudgedFile};
 ghost use Rattle.reports.specs.Replies.{controller};
@@ -80,15 +80,31 @@ fn trees(heap: Global, contents: Contents<'_>) -> Result<String, AllocError> {
 }
 
 // A form, a line for each command, its parts further in.
+// Kept: a loop over the second parts, where a second call would read as well. A form that is nested to the right takes no stack for its
+// depth.
 fn add_tree(text: &mut String, form: Form<'_>, depth: usize) -> Result<(), AllocError> {
+    let mut depth = depth;
+    let mut rest = form;
+    while let Some((first, second)) = add_line(text, rest, depth)? {
+        depth = depth.saturating_add(1);
+        add_tree(text, first, depth)?;
+        rest = second;
+    }
+    Ok(())
+}
+
+// The line of a form's command. Told are the form's parts, if it has any, which are shorter.
+fn add_line<'a>(
+    text: &mut String,
+    form: Form<'a>,
+    depth: usize,
+) -> Result<Option<(Form<'a>, Form<'a>)>, AllocError>
+    ensures { IfOk result (λ parts. IfSome parts (λ p. (length p.0.bytes.now < length form.entry.bytes.now) × (length p.1.bytes.now < length form.entry.bytes.now))) }
+{
     let head = form.head();
     let indent = 2 * depth.min(DEEPEST);
     writeln!(text, "{:indent$}{}", "", Line(head))?;
-    if let Some((f, g)) = head.parts() {
-        add_tree(text, f, depth.saturating_add(1))?;
-        add_tree(text, g, depth.saturating_add(1))?;
-    }
-    Ok(())
+    Ok(head.parts())
 }
 
 // The command of a form with its operands, in words.
