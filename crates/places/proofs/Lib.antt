@@ -1,3 +1,4 @@
+pub mod Passing
 pub mod Seeking
 pub mod Scanning
 pub mod Placing

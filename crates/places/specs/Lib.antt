@@ -1,4 +1,5 @@
 pub mod Places
+pub mod Passing
 pub mod Scans
 pub mod Tickets
 pub mod Frames

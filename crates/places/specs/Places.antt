@@ -3,7 +3,6 @@ use Rattle.std.specs.Prelude.{◌≡◌, ℕ, ◌+◌, ◌-◌, ◌<◌, ◌≤�
 use Rattle.orc.specs.Expressions.{Parameter, Expression, stop, site_call, definition_call, parallel, sequential, pruning, pending, size}
 use Rattle.orc.specs.Calls.{ready, due_count}
 use Rattle.forms.specs.Reading.{expression_of}
-use Rattle.forms.specs.Heads.{IsForm}
 
 -- a place, by so many bytes further on
 abbrev pub later : ℕ → Option ℕ → Option ℕ
@@ -28,7 +27,7 @@ due_place n (pending k s v c) = None
 pub record EndsAt (bs : List ℕ) (n p : ℕ) : Type 0 where
   pub due : n < due_count (expression_of bs)
   pub within : p < length bs
-  pub place : IsForm bs → due_place n (expression_of bs) ≡ Some p
+  pub place : due_place n (expression_of bs) ≡ Some p
 
 -- or has passed all due calls, m in number.
 pub record PassesAll (bs : List ℕ) (n m : ℕ) : Type 0 where
