@@ -68,8 +68,8 @@ impl<H: Host + Copy> Run<H> {
         ensures refused { KeptIfRefused result self.old.plain self.new.plain }
         ensures host { self.new.host ≡ self.old.host }
     {
+        self.plain.check_wait(&self.host, ticks)?;
         let standing = self.plain.measured(&mut self.lengths);
-        self.plain.check_wait(&self.host, ticks, standing)?;
         let clock = self.plain.clock + ticks;
         settle(&self.host, standing, clock, &mut self.settled);
         self.plain.waited(&self.host, ticks, &self.settled);

@@ -8,11 +8,10 @@ ghost use Rattle.engine.specs.Stands.{state_of};
 ghost use Rattle.engine.specs.Shown.{Shows};
 
 use crate::run::Run;
-use crate::settling::LARGEST_FORM;
 use crate::shown::SiteTotals;
 use crate::table::Totals;
 use events::event::Event;
-use forms::measure::measured;
+use forms::form::Form;
 use places::due::due_count;
 
 impl<H> Run<H> {
@@ -55,8 +54,7 @@ impl<H> Run<H> {
     pub fn due_count(&self) -> usize
         ensures { result ≡ due_count (state_of self.now.plain).expression }
     {
-        let mut lengths = [0; LARGEST_FORM];
-        due_count(measured(self.form(), &mut lengths))
+        due_count(Form::new(self.form()))
     }
 
     // How many events are recorded.

@@ -15,7 +15,7 @@ use walks::endless::Endless;
 use walks::settling::settle_into;
 
 // How many bytes the form of a run can have.
-pub(crate) const LARGEST_FORM: usize = 4096;
+const LARGEST_FORM: usize = 4096;
 
 // Makes a buffer hold a form with the pending calls ended that no window reaches at a tick, and simplified.
 // Kept: beside the public `settle_into`, and `simplify` beside `simplify_into`. The public ones write behind what a buffer holds,

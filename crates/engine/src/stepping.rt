@@ -36,7 +36,7 @@ impl Plain {
             (λ f. (m : Meaning) → Refuses m (state_of self.now) (Go n) f) }
     {
         let file = self.loaded_file()?;
-        let form = self.measured(lengths).form;
+        let form = self.standing().form;
         // Kept: `let .. else`. Of a count in the closure of `ok_or_else` nothing is known without a contract written on it.
         let Some(place) = due_place(form, n as usize) else {
             return Err(Refusal::NoneDue(due_count(form)));
@@ -45,7 +45,6 @@ impl Plain {
             return Err(Refusal::RecordFull);
         }
         let contents = Contents::new(file.as_slice());
-        let form = self.standing().form;
         let ticket = self.issued + 1;
         Ok(make_call(form, place, contents, ticket, self.clock, lengths, out).unwrap())
     }

@@ -3,7 +3,6 @@ ghost use Rattle.std.specs.Prelude.{◌≡◌, false, MatchOption, MatchResult};
 ghost use Rattle.std.specs.List.{AllByRecursion};
 ghost use Rattle.orc.specs.Calls.{Pending, pending_calls};
 ghost use Rattle.forms.specs.Heads.{expression};
-ghost use Rattle.walks.specs.Contents.{content};
 ghost use Rattle.runs.specs.declared.call.Call.TheVariants.{Wait};
 ghost use Rattle.runs.specs.Outcomes.{First, late, Refuses};
 ghost use Rattle.engine.specs.Stands.{state_of};
@@ -32,19 +31,14 @@ fn first_late<H: Host>(host: &H, whole: Whole, tick: u64) -> Option<u32>
 }
 
 impl Plain {
-    // Refuses a wait over which time cannot pass, or past the clock's end. The form that stands is given.
-    pub(crate) fn check_wait<H: Host>(
-        &self,
-        host: &H,
-        ticks: u32,
-        standing: Whole,
-    ) -> Result<(), Refusal>
-        requires { standing.form.bytes.now ≡ content self.now.form }
+    // Refuses a wait over which time cannot pass, or past the clock's end.
+    pub(crate) fn check_wait<H: Host>(&self, host: &H, ticks: u32) -> Result<(), Refusal>
         ensures { MatchResult result
             (λ _. CanPass (H.Host.meaning host.now) (state_of self.now) ticks)
             (λ f. Refuses (H.Host.meaning host.now) (state_of self.now) (Wait ticks) f) }
     {
         self.loaded_file()?;
+        let standing = self.standing();
         let due = due_count(standing.form);
         if ticks > 0 && due > 0 {
             return Err(Refusal::DueFirst(due));

@@ -16,14 +16,14 @@ returns-in_err-loaded_file g c =
 
 pub returns-then-due-gt0 : goal.returns-then-due-gt0
 returns-then-due-gt0 g c =
-    due_first (g.H.Host.meaning c.args.host.now) c.args.self.now c.args.ticks (ap is_some c.in_ok-loaded_file.ensures) c.args.standing.form.bytes.now c.requires c.due_count-due.result c.due_count-due.ensures.count c.if-ticks-gt0.true c.if-due-gt0.true
+    due_first (g.H.Host.meaning c.args.host.now) c.args.self.now c.args.ticks (ap is_some c.in_ok-loaded_file.ensures) c.standing-standing.result.form.bytes.now c.standing-standing.ensures c.due_count-due.result c.due_count-due.ensures.count c.if-ticks-gt0.true c.if-due-gt0.true
 
 pub returns-in-Some : goal.returns-in-Some
 returns-in-Some g c =
     let m = g.H.Host.meaning c.args.host.now in
     let p = c.args.self.now in
-    let bs = c.args.standing.form.bytes.now in
-    let same = c.requires in
+    let bs = c.standing-standing.result.form.bytes.now in
+    let same = c.standing-standing.ensures in
     let due = c.due_count-due.result in
     let idle : (c.args.ticks ≡ 0) ⊎ (due_count (state_of p).expression ≡ 0) =
     elim c.else-ticks-gt0.branch [
@@ -37,8 +37,8 @@ pub returns-then-tick-gt-LAST_CLOCK : goal.returns-then-tick-gt-LAST_CLOCK
 returns-then-tick-gt-LAST_CLOCK g c =
     let m = g.H.Host.meaning c.args.host.now in
     let p = c.args.self.now in
-    let bs = c.args.standing.form.bytes.now in
-    let same = c.requires in
+    let bs = c.standing-standing.result.form.bytes.now in
+    let same = c.standing-standing.ensures in
     let due = c.due_count-due.result in
     let idle : (c.args.ticks ≡ 0) ⊎ (due_count (state_of p).expression ≡ 0) =
     elim c.else-ticks-gt0.branch [
@@ -51,8 +51,8 @@ pub returns : goal.returns
 returns g c =
     let m = g.H.Host.meaning c.args.host.now in
     let p = c.args.self.now in
-    let bs = c.args.standing.form.bytes.now in
-    let same = c.requires in
+    let bs = c.standing-standing.result.form.bytes.now in
+    let same = c.standing-standing.ensures in
     let due = c.due_count-due.result in
     let idle : (c.args.ticks ≡ 0) ⊎ (due_count (state_of p).expression ≡ 0) =
     elim c.else-ticks-gt0.branch [
