@@ -1,5 +1,5 @@
 -- A record's events, and elements by their number. Assumes nothing.
-use Rattle.std.proofs.Common.{◌≡◌, ℕ, zero, suc, ◌<◌, ◌≤◌, List, [], ◌∷◌, length, get_or, replicate, Some, None, Option, MatchOption, Bor, sym, refl, ap, arith}
+use Rattle.std.proofs.Common.{◌≡◌, ℕ, zero, suc, ◌<◌, ◌≤◌, List, [], ◌∷◌, length, get_or, replicate, Some, None, Option, MatchOption, Bor, sym, refl, ap, ◌∙◌, arith}
 use Rattle.std.specs.List.{HoldsAt}
 use Rattle.std.specs.Option.{option_copied}
 use Rattle.std.proofs.lemmas.List.{length-map}
@@ -17,11 +17,11 @@ same_everywhere zero i x = refl
 same_everywhere (suc n) zero x = refl
 same_everywhere (suc n) (suc i) x = same_everywhere n i x
 
--- an element by its number, if there is one
-entry_there : (xs : List ℕ) (i : ℕ) (x : ℕ) → i < length xs → x ≡ get_or xs i x → Some x ≡ entry xs i
-entry_there [] i x within is = absurd (omega arith)
-entry_there (y ∷ xs) zero x within is = ap Some is
-entry_there (y ∷ xs) (suc i) x within is = entry_there xs i x (omega arith) is
+-- an element by its number
+pub entry_there : {X : Type 0} (xs : List X) (i : ℕ) (d : X) → i < length xs → Some (get_or xs i d) ≡ entry xs i
+entry_there [] i d h = absurd (omega arith)
+entry_there (x ∷ xs) zero d h = refl
+entry_there (x ∷ xs) (suc i) d h = entry_there xs i d (omega arith)
 
 entry_past : (xs : List ℕ) (i : ℕ) → length xs ≤ i → None ≡ entry xs i
 entry_past [] i past = refl
@@ -30,4 +30,4 @@ entry_past (y ∷ xs) (suc i) past = entry_past xs i (omega arith)
 
 pub got_at : (xs : List ℕ) (i : ℕ) (r : Option (Bor ℕ)) → MatchOption r (length xs ≤ i) (λ x. (i < length xs) × HoldsAt (λ y. x.now ≡ y) xs i) → option_copied r ≡ entry xs i
 got_at xs i None past = entry_past xs i past
-got_at xs i (Some x) there = entry_there xs i x.now there.0 (there.1 x.now)
+got_at xs i (Some x) there = ap Some (there.1 x.now) ∙ entry_there xs i x.now there.0

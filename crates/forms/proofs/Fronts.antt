@@ -43,6 +43,16 @@ two_in_front [] b is some = absurd (omega arith)
 two_in_front (x ∷ []) b is some = absurd (omega arith)
 two_in_front (x ∷ y ∷ bs) b is some = cc
 
+-- two parts of a form are forms, whatever it is made by; o are the bytes in front of them
+pub both_are_forms : (bs o : List ℕ) {t l r : List ℕ} (make : Expression → Expression → Expression) → ((f g : Expression) → bytes (make f g) ≡ o ++ (bytes f ++ bytes g))
+    → bs ≡ o ++ t → make (expression_of l) (expression_of r) ≡ expression_of bs → TwoParts t l r → IsForm bs → IsForm l × IsForm r
+both_are_forms bs o {t} {l} {r} make written there headed both form =
+    let f = expression_of l in
+    let g = expression_of r in
+    let parts : t ≡ bytes f ++ bytes g = append_cancel_left o t (bytes f ++ bytes g) (sym there ∙ sym form ∙ ap bytes (sym headed) ∙ written f g) in
+    let same = both.exact f g parts in
+    (sym same.0, sym same.1)
+
 module _ (bs : List ℕ) (whole : WholeCommand bs 0) (b : ℕ) (is : byte_at bs 0 ≡ b) where
   some_bytes : 0 < length bs
   some_bytes = omega (arith, wide (byte_at bs 0) whole.of_a_form, whole.whole)
@@ -76,9 +86,4 @@ module _ (bs : List ℕ) (whole : WholeCommand bs 0) (b : ℕ) (is : byte_at bs 
   -- the parts of a form are forms; o are the bytes in front of them
   pub parts_are_forms : (o : List ℕ) {l r : List ℕ} (make : Expression → Expression → Expression) → opened b bs ≡ of_two make → ((f g : Expression) → bytes (make f g) ≡ o ++ (bytes f ++ bytes g))
       → bs ≡ o ++ drop (width_of b) bs → Behind l r → IsForm bs → IsForm l × IsForm r
-  parts_are_forms o {l} {r} make made written there parts form =
-      let f = expression_of l in
-      let g = expression_of r in
-      let behind : drop (width_of b) bs ≡ bytes f ++ bytes g = append_cancel_left o (drop (width_of b) bs) (bytes f ++ bytes g) (sym there ∙ sym form ∙ ap bytes (sym (headed_two make made parts)) ∙ written f g) in
-      let same = parts.exact f g behind in
-      (sym same.0, sym same.1)
+  parts_are_forms o make made written there parts form = both_are_forms bs o make written there (headed_two make made parts) parts form

@@ -12,7 +12,7 @@ use Rattle.sheets.specs.declared.row.Row.{Row}
 use Rattle.hosts.specs.Meanings.{names, holds, row_handle, sheet_handle, sheet_meaning}
 
 -- a row names the site: what the rows say is what the sheet means
-at_known : (rs : List SheetRow) (s v : ℕ) → some (names s) rs ≡ true → handle (sheet_meaning rs) s v ≡ sheet_handle rs s v
+pub at_known : (rs : List SheetRow) (s v : ℕ) → some (names s) rs ≡ true → handle (sheet_meaning rs) s v ≡ sheet_handle rs s v
 at_known rs s v t = ap (λ b. handle_of (cond b (known (sheet_handle rs s)) unknown) v) t
 
 module _ (s : ℕ) where

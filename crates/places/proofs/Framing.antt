@@ -13,7 +13,7 @@ use Rattle.places.specs.declared.stretch.Stretch.{Stretch}
 use Rattle.places.proofs.Stretches.{same_offsets}
 
 -- where a place lies
-in_front : (p w n : ℕ) (first second : Option Stretch) → p < w → by_part p w n first second ≡ None
+pub in_front : (p w n : ℕ) (first second : Option Stretch) → p < w → by_part p w n first second ≡ None
 in_front p w n first second before = rw (lt-ltb p w before)
 
 pub in_first : (p w n : ℕ) (first second : Option Stretch) → w ≤ p → p < w + n → by_part p w n first second ≡ first

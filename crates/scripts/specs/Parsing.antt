@@ -13,7 +13,7 @@ use Rattle.scripts.specs.Operands.{number_of}
 pub reads : (most : ℕ) (w : List ℕ) (n : ℕ) → all_ascii_digits w ≡ true → digits_value 10 w ≡ n → n ≤ most → number_of most w ≡ Ok n
 reads most w n all is small = let fits = le-leb (digits_value 10 w) most (omega (arith, is)) in simp (all, fits) (ap Ok is)
 
-too_large : (most : ℕ) (w : List ℕ) → all_ascii_digits w ≡ true → most < digits_value 10 w → number_of most w ≡ Err (TooLarge most)
+pub too_large : (most : ℕ) (w : List ℕ) → all_ascii_digits w ≡ true → most < digits_value 10 w → number_of most w ≡ Err (TooLarge most)
 too_large most w all large = let over = lt-leb (digits_value 10 w) most large in simp (all, over)
 
 -- a type of k bits is read from a word of digits as the number that the word writes

@@ -60,7 +60,7 @@ module _ (ds : List Definition) (t k : ℕ) (bs : List ℕ) (p : ℕ) where
     pub site_made : {bs' : List ℕ} → bs' ≡ spliced bs p (p + 5) (bytes (pending k s v t)) → Made ds t k bs p (called s v) bs'
     site_made new = record { is_due = subst IsDue is tt; result = pending k s v t; step = λ m. subst (λ e. Step (record { meaning = m; definitions = ds }) t k e (due 0) (called s v) [] (pending k s v t)) is calls; replaced = new }
 
-    site_becomes : {a : Act} {bs' : List ℕ} → Made ds t k bs p a bs' → bs' ≡ spliced bs p (p + 5) (bytes (pending k s v t))
+    pub site_becomes : {a : Act} {bs' : List ℕ} → Made ds t k bs p a bs' → bs' ≡ spliced bs p (p + 5) (bytes (pending k s v t))
     site_becomes {a} m = m.replaced ∙ ap (λ e. spliced bs p (p + 5) (bytes e)) (site_step (subst (λ e. Step (record { meaning = λ _. unknown; definitions = ds }) t k e (due 0) a [] m.result) (sym is) (m.step (λ _. unknown))))
 
     pub site_unmade : capacity < length (spliced bs p (p + 5) (bytes (pending k s v t))) → (a : Act) (bs' : List ℕ) → Made ds t k bs p a bs' → capacity < length bs'
@@ -82,7 +82,7 @@ module _ (ds : List Definition) (t k : ℕ) (bs : List ℕ) (p : ℕ) where
     pub definition_missing : None ≡ entry ds i → {a : Act} {bs' : List ℕ} → Made ds t k bs p a bs' → ⊥
     definition_missing none m = let u = definition_unfolded m in cc
 
-    definition_becomes : (d : Definition) → Some d ≡ entry ds i → {a : Act} {bs' : List ℕ} → Made ds t k bs p a bs' → bs' ≡ spliced bs p (p + 5) (bytes (substitute v d.formal d.body))
+    pub definition_becomes : (d : Definition) → Some d ≡ entry ds i → {a : Act} {bs' : List ℕ} → Made ds t k bs p a bs' → bs' ≡ spliced bs p (p + 5) (bytes (substitute v d.formal d.body))
     definition_becomes d found m =
         let u = definition_unfolded m in
         let same : u.definition ≡ d = cc in
