@@ -446,6 +446,27 @@ fn reports(rt: &HostRuntime) -> io::Result<()> {
     print!(rt; "----\n{report}")
 }
 
+// The example of a door: the file that closes it, and the sheet of its sites.
+const CLOSE: [u8; 67] = [
+    1, 0, 0, 31, 5, 1, 1, 0, 1, 0, 1, 3, 1, 5, 1, 0, 0, 3, 1, 4, 0, 0, 0, 4, 2, 1, 3, 0, 1, 244, 1,
+    0, 0, 0, 9, 4, 3, 1, 6, 0, 0, 0, 4, 4, 2, 0, 0, 0, 1, 3, 1, 0, 1, 0, 4, 4, 5, 1, 1, 1, 0, 4, 2,
+    0, 0, 0, 0,
+];
+
+const DOOR: [u8; 126] = [
+    16, 0, 0, 0, 255, 255, 1, 17, 0, 0, 0, 0, 255, 255, 255, 255, 0, 1, 0, 1, 16, 1, 0, 0, 0, 0, 0,
+    17, 0, 0, 0, 200, 0, 0, 1, 94, 0, 0, 0, 0, 17, 0, 0, 0, 50, 0, 0, 1, 94, 0, 1, 0, 1, 16, 1, 0,
+    1, 0, 1, 0, 17, 0, 0, 0, 250, 0, 0, 1, 144, 0, 0, 0, 0, 17, 0, 0, 0, 50, 0, 0, 1, 144, 0, 1, 0,
+    1, 17, 0, 0, 1, 144, 255, 255, 255, 255, 0, 2, 0, 2, 16, 2, 0, 0, 0, 3, 0, 17, 0, 0, 0, 0, 0,
+    0, 0, 5, 0, 0, 0, 0, 16, 3, 0, 0, 0, 1, 1,
+];
+
+// The whole report on the example, as the program prints it.
+fn example_report(rt: &HostRuntime) -> io::Result<()> {
+    let report = file_report_with_sheet(rt.alloc(), &CLOSE, &DOOR)?;
+    print!(rt; "----\n{report}")
+}
+
 // The report on a file with each fault.
 fn refused_reports(rt: &HostRuntime) -> io::Result<()> {
     let heap = rt.alloc();
@@ -495,6 +516,7 @@ fn main(rt: HostRuntime) -> io::Result<()> {
     contents(&rt)?;
     forms(&rt)?;
     reports(&rt)?;
+    example_report(&rt)?;
     refused_reports(&rt)?;
     deep_report(&rt)
 }
